@@ -1,0 +1,134 @@
+-- What holds of a list of nodes that is held in arrays.
+use mathlib.Core.Path.{_≡_, refl, sym, _∙_, ap, subst}
+use mathlib.Core.List.{List, [], _∷_, _++_}
+use mathlib.Core.Bool.{Bool, true, cond}
+use Prim.Native.Nat.{ℕ, _+_, _<_, _≤_, max}
+use native.Mathlib.Omega.{arith}
+use native.Mathlib.Numerals.{add-one}
+use lib.Dec.{ltb, leb}
+use lib.ListN.{length, getD, set, take, List·getD-map}
+use lib.Seq.{getD-take, length-take-le, take-suc-set}
+use Rattle.std.proofs.shelf.Tests.{lt-ltb, le-ltb, lt-leb}
+use Rattle.std.specs.declared.option.Option.{Option}
+use Rattle.std.specs.declared.option.Option.the-variants.{Some, None}
+use Rattle.std.specs.declared.result.Result.{Result}
+use Rattle.std.specs.declared.result.Result.the-variants.{Ok, Err}
+use Rattle.fault.specs.Refusals.{refuse}
+use Rattle.fault.specs.First.{Rule, first, unless}
+use Rattle.fault.specs.declared.Layer.the-variants.{Table}
+use Rattle.fault.specs.declared.Refusal.{Refusal}
+use Rattle.nodes.specs.declared.node.Node.{Node}
+use Rattle.nodes.specs.declared.node.Facts.{Facts}
+use Rattle.nodes.specs.declared.list.Nodes.{Nodes}
+use Rattle.nodes.specs.Trees.{Tree, build, trees, tree-of, facts-of, all-facts, largest-lookback}
+use Rattle.nodes.specs.Rules.{nothing, node-rules, rules-after, Kept, operands, earlier}
+use Rattle.nodes.specs.Steps.{known, facts-step, All-short}
+use Rattle.nodes.specs.Lists.{node-list, node-at, facts-at, pushed}
+use Rattle.nodes.proofs.Forest.{unfolds}
+use Rattle.nodes.proofs.Limits.{allowed}
+use Rattle.nodes.proofs.Growth.{admitted, kept-short, kept-snoc, all-facts-snoc, largest-snoc, unless-ok, unless-good, unless-bad}
+
+pub length-nodes : (t : Nodes) → length (node-list t) ≡ t .count
+length-nodes t =
+    let room = t .room in
+    let places = t .places in
+    length-take-le (t .count) (t .nodes) (omega arith)
+
+pub node-there : (t : Nodes) (i : ℕ) → i < t .count → Some (getD (t .nodes) i nothing) ≡ node-at (node-list t) i
+node-there t i h =
+    let l : i < length (node-list t) = omega (arith, length-nodes t) in
+    sym (ap (λ b. cond b (Some (getD (node-list t) i nothing)) None) (lt-ltb i (length (node-list t)) l) ∙ ap Some (getD-take (t .count) (t .nodes) i nothing h))
+
+pub node-past : (t : Nodes) (i : ℕ) → t .count ≤ i → None ≡ node-at (node-list t) i
+node-past t i h =
+    let l : length (node-list t) ≤ i = omega (arith, length-nodes t) in
+    sym (ap (λ b. cond b (Some (getD (node-list t) i nothing)) None) (le-ltb i (length (node-list t)) l))
+
+pub facts-there : (t : Nodes) (i : ℕ) → i < t .count → Some (getD (t .facts) i (facts-of Tree.absent)) ≡ facts-at (node-list t) i
+facts-there t i h =
+    let l : i < length (node-list t) = omega (arith, length-nodes t) in
+    let e : getD (t .facts) i (facts-of Tree.absent) ≡ facts-of (tree-of (node-list t) i) =
+    sym (getD-take (t .count) (t .facts) i (facts-of Tree.absent) h)
+    ∙ ap (λ (fs : List Facts). getD fs i (facts-of Tree.absent)) (t .right)
+    ∙ List·getD-map facts-of (trees (node-list t)) i Tree.absent in
+    ap Some e ∙ sym (ap (λ b. cond b (Some (facts-of (tree-of (node-list t) i))) None) (lt-ltb i (length (node-list t)) l))
+
+pub facts-past : (t : Nodes) (i : ℕ) → t .count ≤ i → None ≡ facts-at (node-list t) i
+facts-past t i h =
+    let l : length (node-list t) ≤ i = omega (arith, length-nodes t) in
+    sym (ap (λ b. cond b (Some (facts-of (tree-of (node-list t) i))) None) (le-ltb i (length (node-list t)) l))
+
+-- a node's tree is built from those of its operands
+pub tree-unfolds : (t : Nodes) (i : ℕ) → i < length (node-list t) → tree-of (node-list t) i ≡ build (tree-of (node-list t)) (getD (node-list t) i nothing)
+tree-unfolds t i h =
+    let ns : List Node = node-list t in
+    let before : List Node = take i ns in
+    let n : Node = getD ns i nothing in
+    let a = allowed (t .signals) (λ a. facts-of (tree-of before a)) (facts-of (build (tree-of before) n)) (length before) n (t .kept i h) in
+    let E : ℕ → Type 0 = λ j. earlier j (operands n) ≡ true in
+    unfolds ns i h (subst E (length-take-le i ns (omega arith)) (a .earlier))
+
+-- what `admit` answers, from the facts that it is lent
+abbrev pub answer : ℕ → List Facts → Node → Result Facts Refusal
+answer s fs n = unless (first (node-rules s (known fs) (facts-step (known fs) n) (length fs) n)) (facts-step (known fs) n)
+
+-- there is room for one more
+roomy : (t : Nodes) (n : Node) → t .count < 32 → pushed (t .signals) (node-list t) n ≡ unless (first (rules-after (t .signals) (node-list t) n)) (node-list t ++ n ∷ [])
+roomy t n h =
+    let l : length (node-list t) < 32 = omega (arith, length-nodes t) in
+    let rs : List Rule = rules-after (t .signals) (node-list t) n in
+    ap (λ b. unless (cond b (Some (refuse Table 1 0)) (first rs)) (node-list t ++ n ∷ [])) (lt-leb 32 (length (node-list t)) l)
+
+module _ (t : Nodes) (n : Node) (room : t .count < 32) (fs : List Facts) (lent : fs ≡ take (t .count) (t .facts)) where
+  tree-answer : answer (t .signals) fs n ≡ unless (first (rules-after (t .signals) (node-list t) n)) (facts-of (build (tree-of (node-list t)) n))
+  tree-answer = admitted (t .signals) (node-list t) n fs (lent ∙ t .right)
+
+  -- what `admit` asks
+  pub few : length fs < 32
+  few =
+      let entries = t .entries in
+      let l : length (take (t .count) (t .facts)) ≡ t .count = length-take-le (t .count) (t .facts) (omega arith) in
+      omega (arith, ap length lent)
+
+  pub lent-short : All-short fs
+  lent-short = subst All-short (sym (lent ∙ t .right)) (kept-short (t .signals) (node-list t) (t .kept))
+
+  -- a refusal of `admit` is the refusal of the push
+  pub push-refused : (r : Refusal) → Err r ≡ answer (t .signals) fs n → pushed (t .signals) (node-list t) n ≡ Err r
+  push-refused r e =
+      roomy t n room
+      ∙ unless-bad (first (rules-after (t .signals) (node-list t) n)) (facts-of (build (tree-of (node-list t)) n)) (node-list t ++ n ∷ []) r (sym tree-answer ∙ sym e)
+
+-- a list with one more node
+pub record Grown (t : Nodes) (n : Node) (f : Facts) : Type 0 where
+  pub kept : Kept (t .signals) (take (t .count + 1) (set (t .nodes) (t .count) n))
+  pub right : take (t .count + 1) (set (t .facts) (t .count) f) ≡ all-facts (take (t .count + 1) (set (t .nodes) (t .count) n))
+  pub widest : max (t .lookback) (f .lookback) ≡ largest-lookback (take (t .count + 1) (set (t .facts) (t .count) f))
+  pub pushed : pushed (t .signals) (node-list t) n ≡ Ok (take (t .count + 1) (set (t .nodes) (t .count) n))
+
+pub grown : (t : Nodes) (n : Node) (f : Facts) → t .count < 32 → (fs : List Facts) → fs ≡ take (t .count) (t .facts) → Ok f ≡ answer (t .signals) fs n → Grown t n f
+grown t n f room fs lent e =
+    let ns : List Node = node-list t in
+    let s : ℕ = t .signals in
+    let rs : List Rule = rules-after s ns n in
+    let g : Facts = facts-of (build (tree-of ns) n) in
+    let places = t .places in
+    let entries = t .entries in
+    let u : unless (first rs) g ≡ Ok f = sym (tree-answer t n room fs lent) ∙ sym e in
+    let ok = unless-ok rs g f u in
+    let more : take (t .count + 1) (set (t .nodes) (t .count) n) ≡ ns ++ n ∷ [] = rw add-one (take-suc-set (t .nodes) (t .count) n (omega arith)) in
+    let known-more : take (t .count + 1) (set (t .facts) (t .count) f) ≡ take (t .count) (t .facts) ++ f ∷ [] =
+    rw add-one (take-suc-set (t .facts) (t .count) f (omega arith)) in
+    let K : List Node → Type 0 = λ x. Kept s x in
+    record {
+      kept = subst K (sym more) (kept-snoc s ns n (t .kept) (ok .0));
+      right = known-more
+          ∙ ap (λ (x : List Facts). x ++ f ∷ []) (t .right)
+          ∙ ap (λ (x : Facts). all-facts ns ++ x ∷ []) (sym (ok .1))
+          ∙ sym (all-facts-snoc ns n)
+          ∙ ap all-facts (sym more);
+      widest = ap (λ (x : ℕ). max x (f .lookback)) (t .widest)
+          ∙ sym (largest-snoc (take (t .count) (t .facts)) f)
+          ∙ ap largest-lookback (sym known-more);
+      pushed = roomy t n room ∙ unless-good (first rs) g f (ns ++ n ∷ []) u ∙ ap Ok (sym more);
+    }

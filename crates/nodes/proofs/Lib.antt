@@ -1,0 +1,5 @@
+pub mod Measured
+pub mod Limits
+pub mod Forest
+pub mod Growth
+pub mod Held

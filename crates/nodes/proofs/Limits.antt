@@ -1,0 +1,113 @@
+-- What is known of a node that no refusal applies to.
+use mathlib.Core.Path.{_≡_, refl, sym}
+use mathlib.Core.List.{List, [], _∷_}
+use mathlib.Core.Bool.{Bool, true, false, not, _&&_, _||_}
+use Prim.Native.Nat.{ℕ, _+_, _-_, _*_, min, max, _<_, _≤_}
+use native.Mathlib.Omega.{arith}
+use native.Mathlib.Nat.{mul-le-mul}
+use lib.Dec.{eqb, ltb, leb}
+use lib.ListN.{length}
+use Rattle.std.proofs.shelf.Tests.{and-parts, or-parts, eqb-false, ltb-true, ltb-false, leb-true, false≢true, not-true, both-ways}
+use Rattle.fault.specs.First.{allows}
+use Rattle.nodes.specs.declared.node.Node.{Node}
+use Rattle.nodes.specs.declared.node.Facts.{Facts}
+use Rattle.nodes.specs.Rules.{earlier, classed, ranged, crossed, empty, over-limit, operands, node-rules}
+use Rattle.nodes.specs.Steps.{known, facts-step, Short, All-short}
+
+pub record Allowed (s : ℕ) (at : ℕ → Facts) (f : Facts) (i : ℕ) (n : Node) : Type 0 where
+  pub earlier : earlier i (operands n) ≡ true
+  pub classed : classed at (operands n) ≡ true
+  pub ranged : ranged s n ≡ true
+  pub matched : crossed at n ≡ false
+  pub filled : empty at (operands n) ≡ false
+  pub limited : over-limit f ≡ false
+
+not-not : (b : Bool) → not (not b) ≡ true → b ≡ true
+not-not true e = refl
+not-not false e = e
+
+pub allowed : (s : ℕ) (at : ℕ → Facts) (f : Facts) (i : ℕ) (n : Node) → allows (node-rules s at f i n) ≡ true → Allowed s at f i n
+allowed s at f i n e =
+    let p = and-parts _ _ e in
+    let q = and-parts _ _ (p .1) in
+    let r = and-parts _ _ (q .1) in
+    let u = and-parts _ _ (r .1) in
+    let v = and-parts _ _ (u .1) in
+    let w = and-parts _ _ (v .1) in
+    record {
+      earlier = not-not _ (p .0);
+      classed = not-not _ (q .0);
+      ranged = not-not _ (r .0);
+      matched = not-true _ (u .0);
+      filled = not-true _ (v .0);
+      limited = not-true _ (w .0);
+    }
+
+module _ (fs : List Facts) (short : All-short fs) where
+  -- the first operand, and the second
+  first-of : (a : ℕ) (b : Bool) → (ltb a (length fs) && b) ≡ true → Short (known fs a)
+  first-of a b h = short a (ltb-true a (length fs) (and-parts (ltb a (length fs)) b h .0))
+
+  second-of : (a : Bool) (b : ℕ) → (a && ltb b (length fs)) ≡ true → Short (known fs b)
+  second-of a b h = short b (ltb-true b (length fs) (and-parts a (ltb b (length fs)) h .1))
+
+  -- no node is shortest above its longest
+  ordered : (s : ℕ) (n : Node) → earlier (length fs) (operands n) ≡ true → ranged s n ≡ true → crossed (known fs) n ≡ false
+      → facts-step (known fs) n .lo ≤ facts-step (known fs) n .hi
+  ordered s (Node.Constant v) e r c = omega arith
+  ordered s (Node.Signal m) e r c = omega arith
+  ordered s (Node.Not a) e r c = omega arith
+  ordered s (Node.And a b) e r c = omega arith
+  ordered s (Node.Or a b) e r c = omega arith
+  ordered s (Node.Past a m) e r c = omega arith
+  ordered s (Node.Delay a b m n) e r c =
+      let x = first-of a (ltb b (length fs)) e in
+      let y = second-of (ltb a (length fs)) b e in
+      let p = and-parts (leb 1 m && leb m n) (leb n 31) r in
+      let q = leb-true m n (and-parts (leb 1 m) (leb m n) (p .0) .1) in
+      omega arith
+  ordered s (Node.Fusion a b) e r c =
+      let x = first-of a (ltb b (length fs)) e in
+      let y = second-of (ltb a (length fs)) b e in
+      let p = or-parts (eqb (known fs a .hi) 0) (eqb (known fs b .hi) 0) c in
+      let u = eqb-false (known fs a .hi) 0 (p .0) in
+      let v = eqb-false (known fs b .hi) 0 (p .1) in
+      omega arith
+  ordered s (Node.Repeat a m n) e r c =
+      let x = first-of a true e in
+      let q = leb-true m n (and-parts (leb m n) (leb n 31) r .0) in
+      mul-le-mul q (x .ordered)
+  ordered s (Node.SequenceOr a b) e r c =
+      let x = first-of a (ltb b (length fs)) e in
+      omega arith
+  ordered s (Node.Intersect a b) e r c = ltb-false _ _ c
+  ordered s (Node.SequenceAnd a b) e r c =
+      let x = first-of a (ltb b (length fs)) e in
+      let y = second-of (ltb a (length fs)) b e in
+      omega arith
+  ordered s (Node.Throughout a b) e r c = second-of (ltb a (length fs)) b e .ordered
+  ordered s (Node.Within a b) e r c =
+      let y = second-of (ltb a (length fs)) b e in
+      let p = ltb-false (known fs b .hi) (known fs a .lo) c in
+      omega arith
+  ordered s (Node.FirstMatch a) e r c = first-of a true e .ordered
+  ordered s (Node.PropertyNot a) e r c = omega arith
+  ordered s (Node.PropertyOr a b) e r c = omega arith
+  ordered s (Node.PropertyAnd a b) e r c = omega arith
+  ordered s (Node.Implies a b) e r c = omega arith
+  ordered s (Node.ImpliesNext a b) e r c = omega arith
+  ordered s (Node.Nexttime a m) e r c = omega arith
+  ordered s (Node.Always a m n) e r c = omega arith
+  ordered s (Node.Eventually a m n) e r c = omega arith
+
+  pub step-short : (s : ℕ) (n : Node) → Allowed s (known fs) (facts-step (known fs) n) (length fs) n → Short (facts-step (known fs) n)
+  step-short s n a =
+      let f = facts-step (known fs) n in
+      let p = or-parts (ltb 32 (f .hi) || ltb 32 (f .lookback)) (ltb 31 (f .horizon)) (a .limited) in
+      let q = or-parts (ltb 32 (f .hi)) (ltb 32 (f .lookback)) (p .0) in
+      record {
+        ordered = ordered s n (a .earlier) (a .ranged) (a .matched);
+        short = ltb-false _ _ (q .0);
+        back = ltb-false _ _ (q .1);
+        ahead = ltb-false _ _ (p .1);
+      }

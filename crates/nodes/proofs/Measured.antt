@@ -1,0 +1,105 @@
+-- What is known of a node, step by step, is what is known of its tree.
+use mathlib.Core.Path.{_≡_, refl, sym, _∙_, ap}
+use mathlib.Core.List.{List, [], _∷_}
+use mathlib.Core.Bool.{Bool, true, false, not, _&&_, cond}
+use Prim.Native.Nat.{ℕ, _+_, _-_, _*_, min, max}
+use Rattle.std.proofs.shelf.Tests.{and-parts, false≢true}
+use Rattle.sva.specs.Formula.{Test, Sequence, Property}
+use Rattle.sva.specs.Lengths.{lo, hi, horizon, test-lookback, sequence-lookback, lookback}
+use Rattle.std.specs.declared.result.Result.{Result}
+use Rattle.fault.specs.First.{Rule, rule, first, unless}
+use Rattle.fault.specs.Refusals.{refuse}
+use Rattle.fault.specs.declared.Layer.the-variants.{Table}
+use Rattle.fault.specs.declared.Refusal.{Refusal}
+use Rattle.nodes.specs.declared.node.Node.{Node}
+use Rattle.nodes.specs.declared.node.Class.{Class}
+use Rattle.nodes.specs.declared.node.Facts.{Facts}
+use Rattle.nodes.specs.Trees.{Tree, as-test, as-sequence, as-property, build, facts-of}
+use Rattle.nodes.specs.Rules.{stands-for, earlier, classed, ranged, crossed, empty, over-limit, operands, node-rules}
+use Rattle.nodes.specs.Steps.{facts-step}
+
+test-same : (t : Tree) → stands-for (facts-of t .class) Class.Boolean ≡ true → test-lookback (as-test t) ≡ facts-of t .lookback
+test-same Tree.absent h = refl
+test-same (Tree.test x) h = refl
+test-same (Tree.sequence a) h = absurd (false≢true h)
+test-same (Tree.property p) h = absurd (false≢true h)
+
+record As-sequence (t : Tree) : Type 0 where
+  least : lo (as-sequence t) ≡ facts-of t .lo
+  most : hi (as-sequence t) ≡ facts-of t .hi
+  back : sequence-lookback (as-sequence t) ≡ facts-of t .lookback
+
+sequence-same : (t : Tree) → stands-for (facts-of t .class) Class.Sequence ≡ true → As-sequence t
+sequence-same Tree.absent h = record { least = refl; most = refl; back = refl }
+sequence-same (Tree.test x) h = record { least = refl; most = refl; back = refl }
+sequence-same (Tree.sequence a) h = record { least = refl; most = refl; back = refl }
+sequence-same (Tree.property p) h = absurd (false≢true h)
+
+record As-property (t : Tree) : Type 0 where
+  ahead : horizon (as-property t) ≡ facts-of t .horizon
+  back : lookback (as-property t) ≡ facts-of t .lookback
+
+property-same : (t : Tree) → As-property t
+property-same Tree.absent = record { ahead = refl; back = refl }
+property-same (Tree.test x) = record { ahead = refl; back = refl }
+property-same (Tree.sequence a) = record { ahead = refl; back = refl }
+property-same (Tree.property p) = record { ahead = refl; back = refl }
+
+module _ (t : ℕ → Tree) where
+  pub step-build : (n : Node) → classed (λ a. facts-of (t a)) (operands n) ≡ true → facts-step (λ a. facts-of (t a)) n ≡ facts-of (build t n)
+  step-build (Node.Constant v) h = refl
+  step-build (Node.Signal m) h = refl
+  step-build (Node.Not a) h = let x = test-same (t a) (and-parts _ _ h .0) in cc
+  step-build (Node.And a b) h = let p = and-parts _ _ h in let x = test-same (t a) (p .0) in let y = test-same (t b) (p .1) in cc
+  step-build (Node.Or a b) h = let p = and-parts _ _ h in let x = test-same (t a) (p .0) in let y = test-same (t b) (p .1) in cc
+  step-build (Node.Past a m) h = let x = test-same (t a) (and-parts _ _ h .0) in cc
+  step-build (Node.Delay a b m n) h = let p = and-parts _ _ h in let x = sequence-same (t a) (p .0) in let y = sequence-same (t b) (p .1) in cc
+  step-build (Node.Fusion a b) h = let p = and-parts _ _ h in let x = sequence-same (t a) (p .0) in let y = sequence-same (t b) (p .1) in cc
+  step-build (Node.Repeat a m n) h = let x = sequence-same (t a) (and-parts _ _ h .0) in cc
+  step-build (Node.SequenceOr a b) h = let p = and-parts _ _ h in let x = sequence-same (t a) (p .0) in let y = sequence-same (t b) (p .1) in cc
+  step-build (Node.Intersect a b) h = let p = and-parts _ _ h in let x = sequence-same (t a) (p .0) in let y = sequence-same (t b) (p .1) in cc
+  step-build (Node.SequenceAnd a b) h = let p = and-parts _ _ h in let x = sequence-same (t a) (p .0) in let y = sequence-same (t b) (p .1) in cc
+  step-build (Node.Throughout a b) h = let p = and-parts _ _ h in let x = test-same (t a) (p .0) in let y = sequence-same (t b) (p .1) in cc
+  step-build (Node.Within a b) h = let p = and-parts _ _ h in let x = sequence-same (t a) (p .0) in let y = sequence-same (t b) (p .1) in cc
+  step-build (Node.FirstMatch a) h = let x = sequence-same (t a) (and-parts _ _ h .0) in cc
+  step-build (Node.PropertyNot a) h = let x = property-same (t a) in cc
+  step-build (Node.PropertyOr a b) h = let x = property-same (t a) in let y = property-same (t b) in cc
+  step-build (Node.PropertyAnd a b) h = let x = property-same (t a) in let y = property-same (t b) in cc
+  step-build (Node.Implies a b) h = let p = and-parts _ _ h in let x = sequence-same (t a) (p .0) in let y = property-same (t b) in cc
+  step-build (Node.ImpliesNext a b) h = let p = and-parts _ _ h in let x = sequence-same (t a) (p .0) in let y = property-same (t b) in cc
+  step-build (Node.Nexttime a m) h = let x = property-same (t a) in cc
+  step-build (Node.Always a m n) h = let x = property-same (t a) in cc
+  step-build (Node.Eventually a m n) h = let x = property-same (t a) in cc
+
+  -- so what is answered from the one is answered from the other
+  pub admitted-same : (s i : ℕ) (n : Node)
+      → unless (first (node-rules s (λ a. facts-of (t a)) (facts-step (λ a. facts-of (t a)) n) i n)) (facts-step (λ a. facts-of (t a)) n)
+      ≡ unless (first (node-rules s (λ a. facts-of (t a)) (facts-of (build t n)) i n)) (facts-of (build t n))
+  admitted-same s i n = by-class (classed (λ a. facts-of (t a)) (operands n)) refl
+    where
+      answer : Facts → Bool → Bool → Result Facts Refusal
+      answer f c e =
+          unless
+          (first
+          (rule (not e) (refuse Table 4 i)
+          ∷ rule (not c) (refuse Table 5 i)
+          ∷ rule (not (ranged s n)) (refuse Table 6 i)
+          ∷ rule (crossed (λ a. facts-of (t a)) n) (refuse Table 7 i)
+          ∷ rule (empty (λ a. facts-of (t a)) (operands n)) (refuse Table 8 i)
+          ∷ rule (over-limit f) (refuse Table 9 i)
+          ∷ []))
+          f
+
+      -- an operand of a wrong class is refused before the facts are asked
+      unclassed : (f g : Facts) (e : Bool) → answer f false e ≡ answer g false e
+      unclassed f g true = refl
+      unclassed f g false = refl
+
+      by-class : (c : Bool) → classed (λ a. facts-of (t a)) (operands n) ≡ c
+          → answer (facts-step (λ a. facts-of (t a)) n) (classed (λ a. facts-of (t a)) (operands n)) (earlier i (operands n))
+          ≡ answer (facts-of (build t n)) (classed (λ a. facts-of (t a)) (operands n)) (earlier i (operands n))
+      by-class true c = ap (λ f. answer f (classed (λ a. facts-of (t a)) (operands n)) (earlier i (operands n))) (step-build n c)
+      by-class false c =
+          ap (λ x. answer (facts-step (λ a. facts-of (t a)) n) x (earlier i (operands n))) c
+          ∙ unclassed (facts-step (λ a. facts-of (t a)) n) (facts-of (build t n)) (earlier i (operands n))
+          ∙ ap (λ x. answer (facts-of (build t n)) x (earlier i (operands n))) (sym c)

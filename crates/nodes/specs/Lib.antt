@@ -1,0 +1,5 @@
+pub mod Format
+pub mod Trees
+pub mod Rules
+pub mod Steps
+pub mod Lists

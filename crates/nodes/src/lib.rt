@@ -1,0 +1,7 @@
+// The nodes of a table: how eight bytes spell one, which may follow which, and the tree that each
+// stands for.
+pub mod calls;
+pub mod decode;
+pub mod list;
+pub mod node;
+mod rules;

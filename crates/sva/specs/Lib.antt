@@ -1,0 +1,3 @@
+pub mod Formula
+pub mod Lengths
+pub mod Span
