@@ -2,7 +2,7 @@
 use mathlib.Core.Path.{_≡_, refl, sym, _∙_, ap, subst}
 use mathlib.Core.List.{List, [], _∷_, _++_}
 use mathlib.Core.Bool.{Bool, true, cond}
-use Prim.Native.Nat.{ℕ, _+_, _<_, _≤_, max}
+use Prim.Native.Nat.{ℕ, suc, _+_, _<_, _≤_, max}
 use native.Mathlib.Omega.{arith}
 use native.Mathlib.Numerals.{add-one}
 use lib.Dec.{ltb, leb}
@@ -22,11 +22,11 @@ use Rattle.nodes.specs.declared.node.Facts.{Facts}
 use Rattle.nodes.specs.declared.list.Nodes.{Nodes}
 use Rattle.nodes.specs.Trees.{Tree, build, trees, tree-of, facts-of, all-facts, largest-lookback}
 use Rattle.nodes.specs.Rules.{nothing, node-rules, rules-after, Kept, operands, earlier}
-use Rattle.nodes.specs.Steps.{known, facts-step, All-short}
+use Rattle.nodes.specs.Steps.{known, facts-step, Short, All-short}
 use Rattle.nodes.specs.Lists.{node-list, node-at, facts-at, pushed}
 use Rattle.nodes.proofs.Forest.{unfolds}
 use Rattle.nodes.proofs.Limits.{allowed}
-use Rattle.nodes.proofs.Growth.{admitted, kept-short, kept-snoc, all-facts-snoc, largest-snoc, unless-ok, unless-good, unless-bad}
+use Rattle.nodes.proofs.Growth.{admitted, known-all, length-all, kept-short, kept-snoc, all-facts-snoc, largest-snoc, unless-ok, unless-good, unless-bad}
 
 pub length-nodes : (t : Nodes) → length (node-list t) ≡ t .count
 length-nodes t =
@@ -132,3 +132,22 @@ grown t n f room fs lent e =
           ∙ ap largest-lookback (sym known-more);
       pushed = roomy t n room ∙ unless-good (first rs) g f (ns ++ n ∷ []) u ∙ ap Ok (sym more);
     }
+
+-- what is known of a node keeps the limits
+pub node-short : (t : Nodes) (i : ℕ) → i < length (node-list t) → Short (facts-of (tree-of (node-list t) i))
+node-short t i h =
+    let ns : List Node = node-list t in
+    let l : i < length (all-facts ns) = omega (arith, length-all ns) in
+    let S : (ℕ → Facts) → Type 0 = λ at. Short (at i) in
+    subst S (known-all ns) (kept-short (t .signals) ns (t .kept) i l)
+
+largest-short : (fs : List Facts) → All-short fs → largest-lookback fs ≤ 32
+largest-short [] short = omega arith
+largest-short (f ∷ fs) short =
+    let x = short 0 (omega arith) in
+    let y = largest-short fs (λ k h. short (suc k) (omega arith)) in
+    omega arith
+
+-- and so does their largest lookback
+pub lookback-short : (t : Nodes) → largest-lookback (all-facts (node-list t)) ≤ 32
+lookback-short t = largest-short (all-facts (node-list t)) (kept-short (t .signals) (node-list t) (t .kept))

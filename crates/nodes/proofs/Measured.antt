@@ -35,11 +35,11 @@ sequence-same (Tree.test x) h = record { least = refl; most = refl; back = refl 
 sequence-same (Tree.sequence a) h = record { least = refl; most = refl; back = refl }
 sequence-same (Tree.property p) h = absurd (false≢true h)
 
-record As-property (t : Tree) : Type 0 where
-  ahead : horizon (as-property t) ≡ facts-of t .horizon
-  back : lookback (as-property t) ≡ facts-of t .lookback
+pub record As-property (t : Tree) : Type 0 where
+  pub ahead : horizon (as-property t) ≡ facts-of t .horizon
+  pub back : lookback (as-property t) ≡ facts-of t .lookback
 
-property-same : (t : Tree) → As-property t
+pub property-same : (t : Tree) → As-property t
 property-same Tree.absent = record { ahead = refl; back = refl }
 property-same (Tree.test x) = record { ahead = refl; back = refl }
 property-same (Tree.sequence a) = record { ahead = refl; back = refl }

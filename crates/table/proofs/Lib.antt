@@ -1,0 +1,3 @@
+pub mod Reading
+pub mod Headed
+pub mod Last
