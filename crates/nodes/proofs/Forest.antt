@@ -9,8 +9,11 @@ use lib.ListN.{length, getD, take, drop, length-append, take-append-drop, List·
 use lib.Seq.{getD-at, length-take-le, take-suc}
 use Rattle.std.proofs.shelf.Tests.{and-parts, ltb-true}
 use Rattle.nodes.specs.declared.node.Node.{Node}
-use Rattle.nodes.specs.Rules.{nothing, earlier, operands}
-use Rattle.nodes.specs.Trees.{Tree, build, tree-in, trees-from, trees, tree-of}
+use Rattle.nodes.specs.declared.node.BooleanNode.{BooleanNode}
+use Rattle.nodes.specs.declared.node.SequenceNode.{SequenceNode}
+use Rattle.nodes.specs.declared.node.PropertyNode.{PropertyNode}
+use Rattle.nodes.specs.Rules.{nothing, earlier, boolean-operands, sequence-operands, property-operands, operands}
+use Rattle.nodes.specs.Trees.{Tree, build-boolean, build-sequence, build-property, build, tree-in, trees-from, trees, tree-of}
 
 pub trees-from-snoc : (ts : List Tree) (ns : List Node) (n : Node)
     → trees-from ts (ns ++ n ∷ []) ≡ trees-from ts ns ++ build (tree-in (trees-from ts ns)) n ∷ []
@@ -37,31 +40,40 @@ module _ (f g : ℕ → Tree) (i : ℕ) (same : (a : ℕ) → a < i → f a ≡ 
       let p = and-parts (ltb a i) (ltb b i) h in
       (same a (ltb-true a i (p .0)), same b (ltb-true b i (p .1)))
 
+  boolean-alike : (n : BooleanNode) → earlier i (boolean-operands n) ≡ true → build-boolean f n ≡ build-boolean g n
+  boolean-alike (BooleanNode.Constant v) h = refl
+  boolean-alike (BooleanNode.Signal m) h = refl
+  boolean-alike (BooleanNode.Not a) h = let p = only a h in cc
+  boolean-alike (BooleanNode.Past a m) h = let p = only a h in cc
+  boolean-alike (BooleanNode.And a b) h = let p = both a b h in cc
+  boolean-alike (BooleanNode.Or a b) h = let p = both a b h in cc
+
+  sequence-alike : (n : SequenceNode) → earlier i (sequence-operands n) ≡ true → build-sequence f n ≡ build-sequence g n
+  sequence-alike (SequenceNode.Repeat a m n) h = let p = only a h in cc
+  sequence-alike (SequenceNode.FirstMatch a) h = let p = only a h in cc
+  sequence-alike (SequenceNode.Delay a b m n) h = let p = both a b h in cc
+  sequence-alike (SequenceNode.Fusion a b) h = let p = both a b h in cc
+  sequence-alike (SequenceNode.Or a b) h = let p = both a b h in cc
+  sequence-alike (SequenceNode.Intersect a b) h = let p = both a b h in cc
+  sequence-alike (SequenceNode.And a b) h = let p = both a b h in cc
+  sequence-alike (SequenceNode.Throughout a b) h = let p = both a b h in cc
+  sequence-alike (SequenceNode.Within a b) h = let p = both a b h in cc
+
+  property-alike : (n : PropertyNode) → earlier i (property-operands n) ≡ true → build-property f n ≡ build-property g n
+  property-alike (PropertyNode.Not a) h = let p = only a h in cc
+  property-alike (PropertyNode.Nexttime a m) h = let p = only a h in cc
+  property-alike (PropertyNode.Always a m n) h = let p = only a h in cc
+  property-alike (PropertyNode.Eventually a m n) h = let p = only a h in cc
+  property-alike (PropertyNode.Or a b) h = let p = both a b h in cc
+  property-alike (PropertyNode.And a b) h = let p = both a b h in cc
+  property-alike (PropertyNode.Implies a b) h = let p = both a b h in cc
+  property-alike (PropertyNode.ImpliesNext a b) h = let p = both a b h in cc
+
   -- a node's tree depends on its operands' trees alone
   pub build-same : (n : Node) → earlier i (operands n) ≡ true → build f n ≡ build g n
-  build-same (Node.Constant v) h = refl
-  build-same (Node.Signal m) h = refl
-  build-same (Node.Not a) h = let p = only a h in cc
-  build-same (Node.And a b) h = let p = both a b h in cc
-  build-same (Node.Or a b) h = let p = both a b h in cc
-  build-same (Node.Past a m) h = let p = only a h in cc
-  build-same (Node.Delay a b m n) h = let p = both a b h in cc
-  build-same (Node.Fusion a b) h = let p = both a b h in cc
-  build-same (Node.Repeat a m n) h = let p = only a h in cc
-  build-same (Node.SequenceOr a b) h = let p = both a b h in cc
-  build-same (Node.Intersect a b) h = let p = both a b h in cc
-  build-same (Node.SequenceAnd a b) h = let p = both a b h in cc
-  build-same (Node.Throughout a b) h = let p = both a b h in cc
-  build-same (Node.Within a b) h = let p = both a b h in cc
-  build-same (Node.FirstMatch a) h = let p = only a h in cc
-  build-same (Node.PropertyNot a) h = let p = only a h in cc
-  build-same (Node.PropertyOr a b) h = let p = both a b h in cc
-  build-same (Node.PropertyAnd a b) h = let p = both a b h in cc
-  build-same (Node.Implies a b) h = let p = both a b h in cc
-  build-same (Node.ImpliesNext a b) h = let p = both a b h in cc
-  build-same (Node.Nexttime a m) h = let p = only a h in cc
-  build-same (Node.Always a m n) h = let p = only a h in cc
-  build-same (Node.Eventually a m n) h = let p = only a h in cc
+  build-same (Node.Boolean n) h = ap Tree.boolean (boolean-alike n h)
+  build-same (Node.Sequence n) h = ap Tree.sequence (sequence-alike n h)
+  build-same (Node.Property n) h = ap Tree.property (property-alike n h)
 
 -- later nodes leave the trees of earlier ones
 tree-stays : (ts : List Tree) (ns : List Node) (a : ℕ) → a < length ts → tree-in (trees-from ts ns) a ≡ tree-in ts a

@@ -10,9 +10,11 @@ use lib.ListN.{length}
 use Rattle.std.proofs.shelf.Tests.{and-parts, or-parts, eqb-false, ltb-true, ltb-false, leb-true, false≢true, not-true, both-ways}
 use Rattle.fault.specs.First.{allows}
 use Rattle.nodes.specs.declared.node.Node.{Node}
+use Rattle.nodes.specs.declared.node.SequenceNode.{SequenceNode}
+use Rattle.nodes.specs.declared.node.PropertyNode.{PropertyNode}
 use Rattle.nodes.specs.declared.node.Facts.{Facts}
-use Rattle.nodes.specs.Rules.{earlier, classed, ranged, crossed, empty, over-limit, operands, node-rules}
-use Rattle.nodes.specs.Steps.{known, facts-step, Short, All-short}
+use Rattle.nodes.specs.Rules.{earlier, classed, ranged, crossed, empty, over-limit, sequence-operands, sequence-ranged, sequence-crossed, operands, node-rules}
+use Rattle.nodes.specs.Steps.{known, sequence-step, property-step, facts-step, Short, All-short}
 
 pub record Allowed (s : ℕ) (at : ℕ → Facts) (f : Facts) (i : ℕ) (n : Node) : Type 0 where
   pub earlier : earlier i (operands n) ≡ true
@@ -51,54 +53,57 @@ module _ (fs : List Facts) (short : All-short fs) where
   second-of : (a : Bool) (b : ℕ) → (a && ltb b (length fs)) ≡ true → Short (known fs b)
   second-of a b h = short b (ltb-true b (length fs) (and-parts a (ltb b (length fs)) h .1))
 
-  -- no node is shortest above its longest
-  ordered : (s : ℕ) (n : Node) → earlier (length fs) (operands n) ≡ true → ranged s n ≡ true → crossed (known fs) n ≡ false
-      → facts-step (known fs) n .lo ≤ facts-step (known fs) n .hi
-  ordered s (Node.Constant v) e r c = omega arith
-  ordered s (Node.Signal m) e r c = omega arith
-  ordered s (Node.Not a) e r c = omega arith
-  ordered s (Node.And a b) e r c = omega arith
-  ordered s (Node.Or a b) e r c = omega arith
-  ordered s (Node.Past a m) e r c = omega arith
-  ordered s (Node.Delay a b m n) e r c =
+  -- no sequence is shortest above its longest
+  sequence-ordered : (n : SequenceNode) → earlier (length fs) (sequence-operands n) ≡ true → sequence-ranged n ≡ true → sequence-crossed (known fs) n ≡ false
+      → sequence-step (known fs) n .lo ≤ sequence-step (known fs) n .hi
+  sequence-ordered (SequenceNode.Delay a b m n) e r c =
       let x = first-of a (ltb b (length fs)) e in
       let y = second-of (ltb a (length fs)) b e in
       let p = and-parts (leb 1 m && leb m n) (leb n 31) r in
       let q = leb-true m n (and-parts (leb 1 m) (leb m n) (p .0) .1) in
       omega arith
-  ordered s (Node.Fusion a b) e r c =
+  sequence-ordered (SequenceNode.Fusion a b) e r c =
       let x = first-of a (ltb b (length fs)) e in
       let y = second-of (ltb a (length fs)) b e in
       let p = or-parts (eqb (known fs a .hi) 0) (eqb (known fs b .hi) 0) c in
       let u = eqb-false (known fs a .hi) 0 (p .0) in
       let v = eqb-false (known fs b .hi) 0 (p .1) in
       omega arith
-  ordered s (Node.Repeat a m n) e r c =
+  sequence-ordered (SequenceNode.Repeat a m n) e r c =
       let x = first-of a true e in
       let q = leb-true m n (and-parts (leb m n) (leb n 31) r .0) in
       mul-le-mul q (x .ordered)
-  ordered s (Node.SequenceOr a b) e r c =
+  sequence-ordered (SequenceNode.Or a b) e r c =
       let x = first-of a (ltb b (length fs)) e in
       omega arith
-  ordered s (Node.Intersect a b) e r c = ltb-false _ _ c
-  ordered s (Node.SequenceAnd a b) e r c =
+  sequence-ordered (SequenceNode.Intersect a b) e r c = ltb-false _ _ c
+  sequence-ordered (SequenceNode.And a b) e r c =
       let x = first-of a (ltb b (length fs)) e in
       let y = second-of (ltb a (length fs)) b e in
       omega arith
-  ordered s (Node.Throughout a b) e r c = second-of (ltb a (length fs)) b e .ordered
-  ordered s (Node.Within a b) e r c =
+  sequence-ordered (SequenceNode.Throughout a b) e r c = second-of (ltb a (length fs)) b e .ordered
+  sequence-ordered (SequenceNode.Within a b) e r c =
       let y = second-of (ltb a (length fs)) b e in
       let p = ltb-false (known fs b .hi) (known fs a .lo) c in
       omega arith
-  ordered s (Node.FirstMatch a) e r c = first-of a true e .ordered
-  ordered s (Node.PropertyNot a) e r c = omega arith
-  ordered s (Node.PropertyOr a b) e r c = omega arith
-  ordered s (Node.PropertyAnd a b) e r c = omega arith
-  ordered s (Node.Implies a b) e r c = omega arith
-  ordered s (Node.ImpliesNext a b) e r c = omega arith
-  ordered s (Node.Nexttime a m) e r c = omega arith
-  ordered s (Node.Always a m n) e r c = omega arith
-  ordered s (Node.Eventually a m n) e r c = omega arith
+  sequence-ordered (SequenceNode.FirstMatch a) e r c = first-of a true e .ordered
+
+  property-ordered : (n : PropertyNode) → property-step (known fs) n .lo ≤ property-step (known fs) n .hi
+  property-ordered (PropertyNode.Not a) = omega arith
+  property-ordered (PropertyNode.Or a b) = omega arith
+  property-ordered (PropertyNode.And a b) = omega arith
+  property-ordered (PropertyNode.Implies a b) = omega arith
+  property-ordered (PropertyNode.ImpliesNext a b) = omega arith
+  property-ordered (PropertyNode.Nexttime a m) = omega arith
+  property-ordered (PropertyNode.Always a m n) = omega arith
+  property-ordered (PropertyNode.Eventually a m n) = omega arith
+
+  -- no node is
+  ordered : (s : ℕ) (n : Node) → earlier (length fs) (operands n) ≡ true → ranged s n ≡ true → crossed (known fs) n ≡ false
+      → facts-step (known fs) n .lo ≤ facts-step (known fs) n .hi
+  ordered s (Node.Boolean n) e r c = omega arith
+  ordered s (Node.Sequence n) e r c = sequence-ordered n e r c
+  ordered s (Node.Property n) e r c = property-ordered n
 
   pub step-short : (s : ℕ) (n : Node) → Allowed s (known fs) (facts-step (known fs) n) (length fs) n → Short (facts-step (known fs) n)
   step-short s n a =

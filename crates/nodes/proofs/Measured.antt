@@ -4,25 +4,28 @@ use mathlib.Core.List.{List, [], _∷_}
 use mathlib.Core.Bool.{Bool, true, false, not, _&&_, cond}
 use Prim.Native.Nat.{ℕ, _+_, _-_, _*_, min, max}
 use Rattle.std.proofs.shelf.Tests.{and-parts, false≢true}
-use Rattle.sva.specs.Formula.{Test, Sequence, Property}
-use Rattle.sva.specs.Lengths.{lo, hi, horizon, test-lookback, sequence-lookback, lookback}
 use Rattle.std.specs.declared.result.Result.{Result}
+use Rattle.sva.specs.Formula.{Boolean, Sequence, Property}
+use Rattle.sva.specs.Lengths.{lo, hi, horizon, boolean-lookback, sequence-lookback, lookback}
 use Rattle.fault.specs.First.{Rule, rule, first, unless}
 use Rattle.fault.specs.Refusals.{refuse}
 use Rattle.fault.specs.declared.Layer.the-variants.{Table}
 use Rattle.fault.specs.declared.Refusal.{Refusal}
 use Rattle.nodes.specs.declared.node.Node.{Node}
+use Rattle.nodes.specs.declared.node.BooleanNode.{BooleanNode}
+use Rattle.nodes.specs.declared.node.SequenceNode.{SequenceNode}
+use Rattle.nodes.specs.declared.node.PropertyNode.{PropertyNode}
 use Rattle.nodes.specs.declared.node.Class.{Class}
 use Rattle.nodes.specs.declared.node.Facts.{Facts}
-use Rattle.nodes.specs.Trees.{Tree, as-test, as-sequence, as-property, build, facts-of}
-use Rattle.nodes.specs.Rules.{stands-for, earlier, classed, ranged, crossed, empty, over-limit, operands, node-rules}
-use Rattle.nodes.specs.Steps.{facts-step}
+use Rattle.nodes.specs.Trees.{Tree, as-boolean, as-sequence, as-property, build, build-boolean, build-sequence, build-property, facts-of, boolean-facts}
+use Rattle.nodes.specs.Rules.{stands-for, earlier, classed, ranged, crossed, empty, over-limit, boolean-operands, sequence-operands, property-operands, operands, node-rules}
+use Rattle.nodes.specs.Steps.{boolean-step, sequence-step, property-step, facts-step}
 
-test-same : (t : Tree) → stands-for (facts-of t .class) Class.Boolean ≡ true → test-lookback (as-test t) ≡ facts-of t .lookback
-test-same Tree.absent h = refl
-test-same (Tree.test x) h = refl
-test-same (Tree.sequence a) h = absurd (false≢true h)
-test-same (Tree.property p) h = absurd (false≢true h)
+boolean-same : (t : Tree) → stands-for (facts-of t .class) Class.Boolean ≡ true → boolean-lookback (as-boolean t) ≡ facts-of t .lookback
+boolean-same Tree.absent h = refl
+boolean-same (Tree.boolean x) h = refl
+boolean-same (Tree.sequence a) h = absurd (false≢true h)
+boolean-same (Tree.property p) h = absurd (false≢true h)
 
 record As-sequence (t : Tree) : Type 0 where
   least : lo (as-sequence t) ≡ facts-of t .lo
@@ -31,7 +34,7 @@ record As-sequence (t : Tree) : Type 0 where
 
 sequence-same : (t : Tree) → stands-for (facts-of t .class) Class.Sequence ≡ true → As-sequence t
 sequence-same Tree.absent h = record { least = refl; most = refl; back = refl }
-sequence-same (Tree.test x) h = record { least = refl; most = refl; back = refl }
+sequence-same (Tree.boolean x) h = record { least = refl; most = refl; back = refl }
 sequence-same (Tree.sequence a) h = record { least = refl; most = refl; back = refl }
 sequence-same (Tree.property p) h = absurd (false≢true h)
 
@@ -41,35 +44,44 @@ pub record As-property (t : Tree) : Type 0 where
 
 pub property-same : (t : Tree) → As-property t
 property-same Tree.absent = record { ahead = refl; back = refl }
-property-same (Tree.test x) = record { ahead = refl; back = refl }
+property-same (Tree.boolean x) = record { ahead = refl; back = refl }
 property-same (Tree.sequence a) = record { ahead = refl; back = refl }
 property-same (Tree.property p) = record { ahead = refl; back = refl }
 
 module _ (t : ℕ → Tree) where
+  boolean-built : (n : BooleanNode) → classed (λ a. facts-of (t a)) (boolean-operands n) ≡ true → boolean-step (λ a. facts-of (t a)) n ≡ boolean-lookback (build-boolean t n)
+  boolean-built (BooleanNode.Constant v) h = refl
+  boolean-built (BooleanNode.Signal m) h = refl
+  boolean-built (BooleanNode.Not a) h = sym (boolean-same (t a) (and-parts _ _ h .0))
+  boolean-built (BooleanNode.And a b) h = let p = and-parts _ _ h in let x = boolean-same (t a) (p .0) in let y = boolean-same (t b) (p .1) in cc
+  boolean-built (BooleanNode.Or a b) h = let p = and-parts _ _ h in let x = boolean-same (t a) (p .0) in let y = boolean-same (t b) (p .1) in cc
+  boolean-built (BooleanNode.Past a m) h = let x = boolean-same (t a) (and-parts _ _ h .0) in cc
+
+  sequence-built : (n : SequenceNode) → classed (λ a. facts-of (t a)) (sequence-operands n) ≡ true → sequence-step (λ a. facts-of (t a)) n ≡ facts-of (Tree.sequence (build-sequence t n))
+  sequence-built (SequenceNode.Delay a b m n) h = let p = and-parts _ _ h in let x = sequence-same (t a) (p .0) in let y = sequence-same (t b) (p .1) in cc
+  sequence-built (SequenceNode.Fusion a b) h = let p = and-parts _ _ h in let x = sequence-same (t a) (p .0) in let y = sequence-same (t b) (p .1) in cc
+  sequence-built (SequenceNode.Or a b) h = let p = and-parts _ _ h in let x = sequence-same (t a) (p .0) in let y = sequence-same (t b) (p .1) in cc
+  sequence-built (SequenceNode.Intersect a b) h = let p = and-parts _ _ h in let x = sequence-same (t a) (p .0) in let y = sequence-same (t b) (p .1) in cc
+  sequence-built (SequenceNode.And a b) h = let p = and-parts _ _ h in let x = sequence-same (t a) (p .0) in let y = sequence-same (t b) (p .1) in cc
+  sequence-built (SequenceNode.Within a b) h = let p = and-parts _ _ h in let x = sequence-same (t a) (p .0) in let y = sequence-same (t b) (p .1) in cc
+  sequence-built (SequenceNode.Throughout a b) h = let p = and-parts _ _ h in let x = boolean-same (t a) (p .0) in let y = sequence-same (t b) (p .1) in cc
+  sequence-built (SequenceNode.Repeat a m n) h = let x = sequence-same (t a) (and-parts _ _ h .0) in cc
+  sequence-built (SequenceNode.FirstMatch a) h = let x = sequence-same (t a) (and-parts _ _ h .0) in cc
+
+  property-built : (n : PropertyNode) → classed (λ a. facts-of (t a)) (property-operands n) ≡ true → property-step (λ a. facts-of (t a)) n ≡ facts-of (Tree.property (build-property t n))
+  property-built (PropertyNode.Not a) h = let x = property-same (t a) in cc
+  property-built (PropertyNode.Nexttime a m) h = let x = property-same (t a) in cc
+  property-built (PropertyNode.Always a m n) h = let x = property-same (t a) in cc
+  property-built (PropertyNode.Eventually a m n) h = let x = property-same (t a) in cc
+  property-built (PropertyNode.Or a b) h = let x = property-same (t a) in let y = property-same (t b) in cc
+  property-built (PropertyNode.And a b) h = let x = property-same (t a) in let y = property-same (t b) in cc
+  property-built (PropertyNode.Implies a b) h = let x = sequence-same (t a) (and-parts _ _ h .0) in let y = property-same (t b) in cc
+  property-built (PropertyNode.ImpliesNext a b) h = let x = sequence-same (t a) (and-parts _ _ h .0) in let y = property-same (t b) in cc
+
   pub step-build : (n : Node) → classed (λ a. facts-of (t a)) (operands n) ≡ true → facts-step (λ a. facts-of (t a)) n ≡ facts-of (build t n)
-  step-build (Node.Constant v) h = refl
-  step-build (Node.Signal m) h = refl
-  step-build (Node.Not a) h = let x = test-same (t a) (and-parts _ _ h .0) in cc
-  step-build (Node.And a b) h = let p = and-parts _ _ h in let x = test-same (t a) (p .0) in let y = test-same (t b) (p .1) in cc
-  step-build (Node.Or a b) h = let p = and-parts _ _ h in let x = test-same (t a) (p .0) in let y = test-same (t b) (p .1) in cc
-  step-build (Node.Past a m) h = let x = test-same (t a) (and-parts _ _ h .0) in cc
-  step-build (Node.Delay a b m n) h = let p = and-parts _ _ h in let x = sequence-same (t a) (p .0) in let y = sequence-same (t b) (p .1) in cc
-  step-build (Node.Fusion a b) h = let p = and-parts _ _ h in let x = sequence-same (t a) (p .0) in let y = sequence-same (t b) (p .1) in cc
-  step-build (Node.Repeat a m n) h = let x = sequence-same (t a) (and-parts _ _ h .0) in cc
-  step-build (Node.SequenceOr a b) h = let p = and-parts _ _ h in let x = sequence-same (t a) (p .0) in let y = sequence-same (t b) (p .1) in cc
-  step-build (Node.Intersect a b) h = let p = and-parts _ _ h in let x = sequence-same (t a) (p .0) in let y = sequence-same (t b) (p .1) in cc
-  step-build (Node.SequenceAnd a b) h = let p = and-parts _ _ h in let x = sequence-same (t a) (p .0) in let y = sequence-same (t b) (p .1) in cc
-  step-build (Node.Throughout a b) h = let p = and-parts _ _ h in let x = test-same (t a) (p .0) in let y = sequence-same (t b) (p .1) in cc
-  step-build (Node.Within a b) h = let p = and-parts _ _ h in let x = sequence-same (t a) (p .0) in let y = sequence-same (t b) (p .1) in cc
-  step-build (Node.FirstMatch a) h = let x = sequence-same (t a) (and-parts _ _ h .0) in cc
-  step-build (Node.PropertyNot a) h = let x = property-same (t a) in cc
-  step-build (Node.PropertyOr a b) h = let x = property-same (t a) in let y = property-same (t b) in cc
-  step-build (Node.PropertyAnd a b) h = let x = property-same (t a) in let y = property-same (t b) in cc
-  step-build (Node.Implies a b) h = let p = and-parts _ _ h in let x = sequence-same (t a) (p .0) in let y = property-same (t b) in cc
-  step-build (Node.ImpliesNext a b) h = let p = and-parts _ _ h in let x = sequence-same (t a) (p .0) in let y = property-same (t b) in cc
-  step-build (Node.Nexttime a m) h = let x = property-same (t a) in cc
-  step-build (Node.Always a m n) h = let x = property-same (t a) in cc
-  step-build (Node.Eventually a m n) h = let x = property-same (t a) in cc
+  step-build (Node.Boolean n) h = ap boolean-facts (boolean-built n h)
+  step-build (Node.Sequence n) h = sequence-built n h
+  step-build (Node.Property n) h = property-built n h
 
   -- so what is answered from the one is answered from the other
   pub admitted-same : (s i : ℕ) (n : Node)

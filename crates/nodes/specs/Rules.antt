@@ -1,8 +1,8 @@
 -- Which nodes may follow which.
 use mathlib.Core.Path.{_≡_}
-use mathlib.Core.List.{List, [], _∷_, _++_, map}
+use mathlib.Core.List.{List, [], _∷_}
 use mathlib.Core.Bool.{Bool, true, false, not, _&&_, _||_}
-use Prim.Native.Nat.{ℕ, _+_, _-_, _*_, min, max, _<_}
+use Prim.Native.Nat.{ℕ, min, max, _<_}
 use lib.Dec.{eqb, ltb, leb}
 use lib.ListN.{length, getD, take}
 use Rattle.std.specs.declared.option.Option.{Option}
@@ -11,11 +11,14 @@ use Rattle.fault.specs.Refusals.{refuse}
 use Rattle.fault.specs.First.{Rule, rule, allows}
 use Rattle.fault.specs.declared.Layer.the-variants.{Table}
 use Rattle.nodes.specs.declared.node.Node.{Node}
+use Rattle.nodes.specs.declared.node.BooleanNode.{BooleanNode}
+use Rattle.nodes.specs.declared.node.SequenceNode.{SequenceNode}
+use Rattle.nodes.specs.declared.node.PropertyNode.{PropertyNode}
 use Rattle.nodes.specs.declared.node.Class.{Class}
 use Rattle.nodes.specs.declared.node.Facts.{Facts}
 use Rattle.nodes.specs.declared.node.Operand.{Operand}
 use Rattle.nodes.specs.declared.node.Operands.{Operands}
-use Rattle.nodes.specs.Trees.{Tree, build, tree-of, facts-of}
+use Rattle.nodes.specs.Trees.{build, tree-of, facts-of}
 
 abbrev pub none : Operands
 none = record { a = None; b = None }
@@ -27,30 +30,39 @@ abbrev pub two : Class → ℕ → Class → ℕ → Operands
 two c a d b = record { a = Some (record { node = a; role = c }); b = Some (record { node = b; role = d }) }
 
 -- the operands of a node, and the class that each is taken as
+abbrev pub boolean-operands : BooleanNode → Operands
+boolean-operands (BooleanNode.Constant v) = none
+boolean-operands (BooleanNode.Signal m) = none
+boolean-operands (BooleanNode.Not a) = one Class.Boolean a
+boolean-operands (BooleanNode.And a b) = two Class.Boolean a Class.Boolean b
+boolean-operands (BooleanNode.Or a b) = two Class.Boolean a Class.Boolean b
+boolean-operands (BooleanNode.Past a m) = one Class.Boolean a
+
+abbrev pub sequence-operands : SequenceNode → Operands
+sequence-operands (SequenceNode.Delay a b m n) = two Class.Sequence a Class.Sequence b
+sequence-operands (SequenceNode.Fusion a b) = two Class.Sequence a Class.Sequence b
+sequence-operands (SequenceNode.Repeat a m n) = one Class.Sequence a
+sequence-operands (SequenceNode.Or a b) = two Class.Sequence a Class.Sequence b
+sequence-operands (SequenceNode.Intersect a b) = two Class.Sequence a Class.Sequence b
+sequence-operands (SequenceNode.And a b) = two Class.Sequence a Class.Sequence b
+sequence-operands (SequenceNode.Throughout a b) = two Class.Boolean a Class.Sequence b
+sequence-operands (SequenceNode.Within a b) = two Class.Sequence a Class.Sequence b
+sequence-operands (SequenceNode.FirstMatch a) = one Class.Sequence a
+
+abbrev pub property-operands : PropertyNode → Operands
+property-operands (PropertyNode.Not a) = one Class.Property a
+property-operands (PropertyNode.Or a b) = two Class.Property a Class.Property b
+property-operands (PropertyNode.And a b) = two Class.Property a Class.Property b
+property-operands (PropertyNode.Implies a b) = two Class.Sequence a Class.Property b
+property-operands (PropertyNode.ImpliesNext a b) = two Class.Sequence a Class.Property b
+property-operands (PropertyNode.Nexttime a m) = one Class.Property a
+property-operands (PropertyNode.Always a m n) = one Class.Property a
+property-operands (PropertyNode.Eventually a m n) = one Class.Property a
+
 abbrev pub operands : Node → Operands
-operands (Node.Constant v) = none
-operands (Node.Signal m) = none
-operands (Node.Not a) = one Class.Boolean a
-operands (Node.And a b) = two Class.Boolean a Class.Boolean b
-operands (Node.Or a b) = two Class.Boolean a Class.Boolean b
-operands (Node.Past a m) = one Class.Boolean a
-operands (Node.Delay a b m n) = two Class.Sequence a Class.Sequence b
-operands (Node.Fusion a b) = two Class.Sequence a Class.Sequence b
-operands (Node.Repeat a m n) = one Class.Sequence a
-operands (Node.SequenceOr a b) = two Class.Sequence a Class.Sequence b
-operands (Node.Intersect a b) = two Class.Sequence a Class.Sequence b
-operands (Node.SequenceAnd a b) = two Class.Sequence a Class.Sequence b
-operands (Node.Throughout a b) = two Class.Boolean a Class.Sequence b
-operands (Node.Within a b) = two Class.Sequence a Class.Sequence b
-operands (Node.FirstMatch a) = one Class.Sequence a
-operands (Node.PropertyNot a) = one Class.Property a
-operands (Node.PropertyOr a b) = two Class.Property a Class.Property b
-operands (Node.PropertyAnd a b) = two Class.Property a Class.Property b
-operands (Node.Implies a b) = two Class.Sequence a Class.Property b
-operands (Node.ImpliesNext a b) = two Class.Sequence a Class.Property b
-operands (Node.Nexttime a m) = one Class.Property a
-operands (Node.Always a m n) = one Class.Property a
-operands (Node.Eventually a m n) = one Class.Property a
+operands (Node.Boolean n) = boolean-operands n
+operands (Node.Sequence n) = sequence-operands n
+operands (Node.Property n) = property-operands n
 
 -- a test of an operand, if there is one
 abbrev pub each-of : (Operand → Bool) → Option Operand → Bool
@@ -77,13 +89,13 @@ stands-for Class.Property Class.Boolean = false
 stands-for Class.Property Class.Sequence = false
 stands-for Class.Property Class.Property = true
 
--- a sequence that is taken as a property
-abbrev pub as-property : Class → Class → Bool
-as-property Class.Sequence Class.Property = true
-as-property Class.Sequence Class.Boolean = false
-as-property Class.Sequence Class.Sequence = false
-as-property Class.Boolean role = false
-as-property Class.Property role = false
+-- a sequence stands for a property
+abbrev pub sequence-for-property : Class → Class → Bool
+sequence-for-property Class.Sequence Class.Property = true
+sequence-for-property Class.Sequence Class.Boolean = false
+sequence-for-property Class.Sequence Class.Sequence = false
+sequence-for-property Class.Boolean role = false
+sequence-for-property Class.Property role = false
 
 -- every operand is the number of a node before node i
 abbrev pub earlier : ℕ → Operands → Bool
@@ -95,60 +107,71 @@ classed at os = every (λ o. stands-for (at (o .node) .class) (o .role)) os
 
 -- some operand is a sequence with lo 0 that stands for a property
 abbrev pub empty : (ℕ → Facts) → Operands → Bool
-empty at os = some (λ o. as-property (at (o .node) .class) (o .role) && eqb (at (o .node) .lo) 0) os
+empty at os = some (λ o. sequence-for-property (at (o .node) .class) (o .role) && eqb (at (o .node) .lo) 0) os
 
 -- the numbers are in their ranges, with s signals
-abbrev pub ranged : ℕ → Node → Bool
-ranged s (Node.Constant v) = true
-ranged s (Node.Signal m) = ltb m s
-ranged s (Node.Not a) = true
-ranged s (Node.And a b) = true
-ranged s (Node.Or a b) = true
-ranged s (Node.Past a m) = leb 1 m && leb m 16
-ranged s (Node.Delay a b m n) = leb 1 m && leb m n && leb n 31
-ranged s (Node.Fusion a b) = true
-ranged s (Node.Repeat a m n) = leb m n && leb n 31
-ranged s (Node.SequenceOr a b) = true
-ranged s (Node.Intersect a b) = true
-ranged s (Node.SequenceAnd a b) = true
-ranged s (Node.Throughout a b) = true
-ranged s (Node.Within a b) = true
-ranged s (Node.FirstMatch a) = true
-ranged s (Node.PropertyNot a) = true
-ranged s (Node.PropertyOr a b) = true
-ranged s (Node.PropertyAnd a b) = true
-ranged s (Node.Implies a b) = true
-ranged s (Node.ImpliesNext a b) = true
-ranged s (Node.Nexttime a m) = leb m 31
-ranged s (Node.Always a m n) = leb m n && leb n 31
-ranged s (Node.Eventually a m n) = leb m n && leb n 31
+abbrev pub boolean-ranged : ℕ → BooleanNode → Bool
+boolean-ranged s (BooleanNode.Constant v) = true
+boolean-ranged s (BooleanNode.Signal m) = ltb m s
+boolean-ranged s (BooleanNode.Not a) = true
+boolean-ranged s (BooleanNode.And a b) = true
+boolean-ranged s (BooleanNode.Or a b) = true
+boolean-ranged s (BooleanNode.Past a m) = leb 1 m && leb m 16
 
--- the operands' lengths leave no match: intersect with lo above hi, fusion with an operand that
--- matches only the empty stretch, a longer sequence within a shorter one, |-> after such an operand
+abbrev pub sequence-ranged : SequenceNode → Bool
+sequence-ranged (SequenceNode.Delay a b m n) = leb 1 m && leb m n && leb n 31
+sequence-ranged (SequenceNode.Fusion a b) = true
+sequence-ranged (SequenceNode.Repeat a m n) = leb m n && leb n 31
+sequence-ranged (SequenceNode.Or a b) = true
+sequence-ranged (SequenceNode.Intersect a b) = true
+sequence-ranged (SequenceNode.And a b) = true
+sequence-ranged (SequenceNode.Throughout a b) = true
+sequence-ranged (SequenceNode.Within a b) = true
+sequence-ranged (SequenceNode.FirstMatch a) = true
+
+abbrev pub property-ranged : PropertyNode → Bool
+property-ranged (PropertyNode.Not a) = true
+property-ranged (PropertyNode.Or a b) = true
+property-ranged (PropertyNode.And a b) = true
+property-ranged (PropertyNode.Implies a b) = true
+property-ranged (PropertyNode.ImpliesNext a b) = true
+property-ranged (PropertyNode.Nexttime a m) = leb m 31
+property-ranged (PropertyNode.Always a m n) = leb m n && leb n 31
+property-ranged (PropertyNode.Eventually a m n) = leb m n && leb n 31
+
+abbrev pub ranged : ℕ → Node → Bool
+ranged s (Node.Boolean n) = boolean-ranged s n
+ranged s (Node.Sequence n) = sequence-ranged n
+ranged s (Node.Property n) = property-ranged n
+
+-- the operands' lengths leave no match: an operand of a fusion that matches no cycle, an intersect
+-- with lo above hi, a sequence within a shorter one
+abbrev pub sequence-crossed : (ℕ → Facts) → SequenceNode → Bool
+sequence-crossed at (SequenceNode.Delay a b m n) = false
+sequence-crossed at (SequenceNode.Fusion a b) = eqb (at a .hi) 0 || eqb (at b .hi) 0
+sequence-crossed at (SequenceNode.Repeat a m n) = false
+sequence-crossed at (SequenceNode.Or a b) = false
+sequence-crossed at (SequenceNode.Intersect a b) = ltb (min (at a .hi) (at b .hi)) (max (at a .lo) (at b .lo))
+sequence-crossed at (SequenceNode.And a b) = false
+sequence-crossed at (SequenceNode.Throughout a b) = false
+sequence-crossed at (SequenceNode.Within a b) = ltb (at b .hi) (at a .lo)
+sequence-crossed at (SequenceNode.FirstMatch a) = false
+
+-- or |-> after a sequence that matches no cycle
+abbrev pub property-crossed : (ℕ → Facts) → PropertyNode → Bool
+property-crossed at (PropertyNode.Not a) = false
+property-crossed at (PropertyNode.Or a b) = false
+property-crossed at (PropertyNode.And a b) = false
+property-crossed at (PropertyNode.Implies a b) = eqb (at a .hi) 0
+property-crossed at (PropertyNode.ImpliesNext a b) = false
+property-crossed at (PropertyNode.Nexttime a m) = false
+property-crossed at (PropertyNode.Always a m n) = false
+property-crossed at (PropertyNode.Eventually a m n) = false
+
 abbrev pub crossed : (ℕ → Facts) → Node → Bool
-crossed at (Node.Constant v) = false
-crossed at (Node.Signal m) = false
-crossed at (Node.Not a) = false
-crossed at (Node.And a b) = false
-crossed at (Node.Or a b) = false
-crossed at (Node.Past a m) = false
-crossed at (Node.Delay a b m n) = false
-crossed at (Node.Fusion a b) = eqb (at a .hi) 0 || eqb (at b .hi) 0
-crossed at (Node.Repeat a m n) = false
-crossed at (Node.SequenceOr a b) = false
-crossed at (Node.Intersect a b) = ltb (min (at a .hi) (at b .hi)) (max (at a .lo) (at b .lo))
-crossed at (Node.SequenceAnd a b) = false
-crossed at (Node.Throughout a b) = false
-crossed at (Node.Within a b) = ltb (at b .hi) (at a .lo)
-crossed at (Node.FirstMatch a) = false
-crossed at (Node.PropertyNot a) = false
-crossed at (Node.PropertyOr a b) = false
-crossed at (Node.PropertyAnd a b) = false
-crossed at (Node.Implies a b) = eqb (at a .hi) 0
-crossed at (Node.ImpliesNext a b) = false
-crossed at (Node.Nexttime a m) = false
-crossed at (Node.Always a m n) = false
-crossed at (Node.Eventually a m n) = false
+crossed at (Node.Boolean n) = false
+crossed at (Node.Sequence n) = sequence-crossed at n
+crossed at (Node.Property n) = property-crossed at n
 
 -- what is known of a node passes a limit
 abbrev pub over-limit : Facts → Bool
@@ -172,7 +195,7 @@ rules-after s before n =
 
 -- what stands in an unused place
 abbrev pub nothing : Node
-nothing = Node.Constant false
+nothing = Node.Boolean (BooleanNode.Constant false)
 
 -- every node keeps the rules
 abbrev pub Kept : (signals : ℕ) → List Node → Type 0

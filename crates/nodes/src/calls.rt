@@ -7,6 +7,7 @@ ghost use Rattle.nodes.specs.Lists.{node-list, Pushes, node-at, facts-at};
 ghost use Rattle.nodes.specs.Rules.{nothing};
 ghost use Rattle.nodes.specs.Trees.{all-facts, largest-lookback, tree-of, build};
 use crate::list::Nodes;
+use crate::node::BooleanNode;
 use crate::node::Class;
 use crate::node::Facts;
 use crate::node::Node;
@@ -27,7 +28,7 @@ impl Nodes {
             lookback: 0,
         };
         Nodes {
-            nodes: [Node::Constant { value: false }; 32],
+            nodes: [Node::Boolean(BooleanNode::Constant { value: false }); 32],
             facts: [unknown; 32],
             count: 0,
             signals,

@@ -2,6 +2,8 @@
 // stands for.
 pub mod calls;
 pub mod decode;
+mod facts;
 pub mod list;
 pub mod node;
+mod operands;
 mod rules;

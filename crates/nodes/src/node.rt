@@ -1,26 +1,36 @@
 // A node of a table and what is known of it.
-
+//
 // An operand `a` or `b` is the number of an earlier node; `m` and `n` are numbers of the node itself.
+
+// A Boolean expression over the signals of one cycle.
 #[derive(Clone, Copy)]
-pub enum Node {
+pub enum BooleanNode {
     Constant { value: bool },
     Signal { m: u8 },
     Not { a: u8 },
     And { a: u8, b: u8 },
     Or { a: u8, b: u8 },
     Past { a: u8, m: u8 },
+}
+
+#[derive(Clone, Copy)]
+pub enum SequenceNode {
     Delay { a: u8, b: u8, m: u8, n: u8 },
     Fusion { a: u8, b: u8 },
     Repeat { a: u8, m: u8, n: u8 },
-    SequenceOr { a: u8, b: u8 },
+    Or { a: u8, b: u8 },
     Intersect { a: u8, b: u8 },
-    SequenceAnd { a: u8, b: u8 },
+    And { a: u8, b: u8 },
     Throughout { a: u8, b: u8 },
     Within { a: u8, b: u8 },
     FirstMatch { a: u8 },
-    PropertyNot { a: u8 },
-    PropertyOr { a: u8, b: u8 },
-    PropertyAnd { a: u8, b: u8 },
+}
+
+#[derive(Clone, Copy)]
+pub enum PropertyNode {
+    Not { a: u8 },
+    Or { a: u8, b: u8 },
+    And { a: u8, b: u8 },
     Implies { a: u8, b: u8 },
     ImpliesNext { a: u8, b: u8 },
     Nexttime { a: u8, m: u8 },
@@ -28,8 +38,15 @@ pub enum Node {
     Eventually { a: u8, m: u8, n: u8 },
 }
 
+#[derive(Clone, Copy)]
+pub enum Node {
+    Boolean(BooleanNode),
+    Sequence(SequenceNode),
+    Property(PropertyNode),
+}
+
 // A Boolean may stand for a sequence, and a sequence for a property.
-#[derive(Clone, Copy, PartialEq, Eq)]
+#[derive(Clone, Copy)]
 pub enum Class {
     Boolean,
     Sequence,

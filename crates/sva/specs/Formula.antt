@@ -1,19 +1,19 @@
--- A property as a tree: tests of one cycle, sequences of cycles, properties.
+-- A property as a tree: Booleans of one cycle, sequences of cycles, properties.
 use mathlib.Core.Bool.{Bool}
 use Prim.Native.Nat.{ℕ}
 
 -- a Boolean expression, tried in one cycle
-pub data Test : Type 0 where
-  constant : Bool → Test
-  signal : ℕ → Test
-  not : Test → Test
-  and : Test → Test → Test
-  or : Test → Test → Test
+pub data Boolean : Type 0 where
+  constant : Bool → Boolean
+  signal : ℕ → Boolean
+  not : Boolean → Boolean
+  and : Boolean → Boolean → Boolean
+  or : Boolean → Boolean → Boolean
   -- a, m cycles ago: past m a
-  past : ℕ → Test → Test
+  past : ℕ → Boolean → Boolean
 
 pub data Sequence : Type 0 where
-  test : Test → Sequence
+  boolean : Boolean → Sequence
   -- a ##[m:n] b: delay m n a b
   delay : ℕ → ℕ → Sequence → Sequence → Sequence
   -- a ##0 b
@@ -23,7 +23,7 @@ pub data Sequence : Type 0 where
   or : Sequence → Sequence → Sequence
   intersect : Sequence → Sequence → Sequence
   and : Sequence → Sequence → Sequence
-  throughout : Test → Sequence → Sequence
+  throughout : Boolean → Sequence → Sequence
   within : Sequence → Sequence → Sequence
   first-match : Sequence → Sequence
 

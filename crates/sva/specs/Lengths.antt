@@ -1,10 +1,10 @@
 -- How long a match can be, and how far ahead and back a property looks.
 use Prim.Native.Nat.{ℕ, _+_, _-_, _*_, min, max}
-use Rattle.sva.specs.Formula.{Test, Sequence, Property}
+use Rattle.sva.specs.Formula.{Boolean, Sequence, Property}
 
 -- the shortest length of a match
 abbrev pub lo : Sequence → ℕ
-lo (Sequence.test x) = 1
+lo (Sequence.boolean x) = 1
 lo (Sequence.delay m n a b) = lo a + lo b + (m - 1)
 lo (Sequence.fusion a b) = max (lo a) 1 + max (lo b) 1 - 1
 lo (Sequence.repeat m n a) = m * lo a
@@ -17,7 +17,7 @@ lo (Sequence.first-match a) = lo a
 
 -- the longest length of a match
 abbrev pub hi : Sequence → ℕ
-hi (Sequence.test x) = 1
+hi (Sequence.boolean x) = 1
 hi (Sequence.delay m n a b) = hi a + hi b + (n - 1)
 hi (Sequence.fusion a b) = hi a + hi b - 1
 hi (Sequence.repeat m n a) = n * hi a
@@ -40,24 +40,24 @@ horizon (Property.nexttime m p) = m + horizon p
 horizon (Property.always m n p) = n + horizon p
 horizon (Property.eventually m n p) = n + horizon p
 
--- how many cycles back a test looks
-abbrev pub test-lookback : Test → ℕ
-test-lookback (Test.constant v) = 0
-test-lookback (Test.signal k) = 0
-test-lookback (Test.not x) = test-lookback x
-test-lookback (Test.and x y) = max (test-lookback x) (test-lookback y)
-test-lookback (Test.or x y) = max (test-lookback x) (test-lookback y)
-test-lookback (Test.past m x) = test-lookback x + m
+-- how many cycles back a Boolean looks
+abbrev pub boolean-lookback : Boolean → ℕ
+boolean-lookback (Boolean.constant v) = 0
+boolean-lookback (Boolean.signal k) = 0
+boolean-lookback (Boolean.not x) = boolean-lookback x
+boolean-lookback (Boolean.and x y) = max (boolean-lookback x) (boolean-lookback y)
+boolean-lookback (Boolean.or x y) = max (boolean-lookback x) (boolean-lookback y)
+boolean-lookback (Boolean.past m x) = boolean-lookback x + m
 
 abbrev pub sequence-lookback : Sequence → ℕ
-sequence-lookback (Sequence.test x) = test-lookback x
+sequence-lookback (Sequence.boolean x) = boolean-lookback x
 sequence-lookback (Sequence.delay m n a b) = max (sequence-lookback a) (sequence-lookback b)
 sequence-lookback (Sequence.fusion a b) = max (sequence-lookback a) (sequence-lookback b)
 sequence-lookback (Sequence.repeat m n a) = sequence-lookback a
 sequence-lookback (Sequence.or a b) = max (sequence-lookback a) (sequence-lookback b)
 sequence-lookback (Sequence.intersect a b) = max (sequence-lookback a) (sequence-lookback b)
 sequence-lookback (Sequence.and a b) = max (sequence-lookback a) (sequence-lookback b)
-sequence-lookback (Sequence.throughout x b) = max (test-lookback x) (sequence-lookback b)
+sequence-lookback (Sequence.throughout x b) = max (boolean-lookback x) (sequence-lookback b)
 sequence-lookback (Sequence.within a b) = max (sequence-lookback a) (sequence-lookback b)
 sequence-lookback (Sequence.first-match a) = sequence-lookback a
 

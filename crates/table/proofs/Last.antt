@@ -18,6 +18,7 @@ use Rattle.fault.specs.declared.TableFault.{TableFault}
 use Rattle.nodes.specs.declared.node.Node.{Node}
 use Rattle.nodes.specs.declared.node.Facts.{Facts}
 use Rattle.nodes.specs.declared.list.Nodes.{Nodes}
+use Rattle.nodes.specs.Rules.{nothing}
 use Rattle.nodes.specs.Lists.{node-list, facts-at, pushed, Pushes}
 use Rattle.nodes.specs.Trees.{trees-from, tree-of, facts-of}
 use Rattle.nodes.proofs.Measured.{property-same}
@@ -40,19 +41,19 @@ last-none ns i h e =
     nothing-empty ns (omega arith)
 
 -- the list of one node, the constant 0
-pub first-node : (old new : Nodes) (r : Result (Unit {0}) TableFault) → node-list old ≡ [] → old .signals ≡ 1 → Pushes old new (Node.Constant false) r
-    → (node-list new ≡ Node.Constant false ∷ []) × (new .signals ≡ 1)
+pub first-node : (old new : Nodes) (r : Result (Unit {0}) TableFault) → node-list old ≡ [] → old .signals ≡ 1 → Pushes old new nothing r
+    → (node-list new ≡ nothing ∷ []) × (new .signals ≡ 1)
 first-node old new (Ok u) e s p =
-    let P : Result (List Node) Refusal = pushed (old .signals) (node-list old) (Node.Constant false) in
-    let q : P ≡ Ok (Node.Constant false ∷ []) =
-    ap (λ (x : ℕ). pushed x (node-list old) (Node.Constant false)) s ∙ ap (λ (x : List Node). pushed 1 x (Node.Constant false)) e in
-    let o : _≡_ {A = Result (List Node) Refusal} (Ok (node-list new)) (Ok (Node.Constant false ∷ [])) = sym (p .0) ∙ q in
+    let P : Result (List Node) Refusal = pushed (old .signals) (node-list old) nothing in
+    let q : P ≡ Ok (nothing ∷ []) =
+    ap (λ (x : ℕ). pushed x (node-list old) nothing) s ∙ ap (λ (x : List Node). pushed 1 x nothing) e in
+    let o : _≡_ {A = Result (List Node) Refusal} (Ok (node-list new)) (Ok (nothing ∷ [])) = sym (p .0) ∙ q in
     (cc, p .1 ∙ s)
 first-node old new (Err f) e s p =
-    let P : Result (List Node) Refusal = pushed (old .signals) (node-list old) (Node.Constant false) in
-    let q : P ≡ Ok (Node.Constant false ∷ []) =
-    ap (λ (x : ℕ). pushed x (node-list old) (Node.Constant false)) s ∙ ap (λ (x : List Node). pushed 1 x (Node.Constant false)) e in
-    let o : _≡_ {A = Result (List Node) Refusal} (Err (table-refusal f)) (Ok (Node.Constant false ∷ [])) = sym (p .0) ∙ q in
+    let P : Result (List Node) Refusal = pushed (old .signals) (node-list old) nothing in
+    let q : P ≡ Ok (nothing ∷ []) =
+    ap (λ (x : ℕ). pushed x (node-list old) nothing) s ∙ ap (λ (x : List Node). pushed 1 x nothing) e in
+    let o : _≡_ {A = Result (List Node) Refusal} (Err (table-refusal f)) (Ok (nothing ∷ [])) = sym (p .0) ∙ q in
     let z : _≡_ {A = ℕ} 0 1 = cc in
     let z′ : ⊥ = omega arith in
     absurd z′

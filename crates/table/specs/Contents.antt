@@ -16,7 +16,7 @@ use Rattle.nodes.specs.declared.node.Node.{Node}
 use Rattle.nodes.specs.declared.node.Class.{Class}
 use Rattle.nodes.specs.declared.node.Facts.{Facts}
 use Rattle.nodes.specs.Format.{node-from}
-use Rattle.nodes.specs.Rules.{as-property as taken-as-property}
+use Rattle.nodes.specs.Rules.{sequence-for-property}
 use Rattle.nodes.specs.Trees.{tree-of, facts-of, as-property}
 use Rattle.nodes.specs.Lists.{pushed}
 use Rattle.table.specs.declared.format.Header.{Header}
@@ -36,7 +36,7 @@ property ns = as-property (tree-of ns (last ns))
 
 -- the last node is a sequence with lo 0
 abbrev pub last-empty : List Node → Bool
-last-empty ns = taken-as-property (facts-of (tree-of ns (last ns)) .class) Class.Property && eqb (facts-of (tree-of ns (last ns)) .lo) 0
+last-empty ns = sequence-for-property (facts-of (tree-of ns (last ns)) .class) Class.Property && eqb (facts-of (tree-of ns (last ns)) .lo) 0
 
 -- the nodes, with one more that may be refused before it is looked at
 abbrev pub with-node : (signals : ℕ) → List Node → Result Node Refusal → Result (List Node) Refusal

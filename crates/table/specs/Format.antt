@@ -21,11 +21,11 @@ abbrev pub header-rules : List ℕ → List Rule
 header-rules bs =
     rule (not (leb 1 (header bs .count) && leb (header bs .count) 32 && eqb (length bs) (16 + 8 * header bs .count))) (refuse Table 1 0)
     ∷ rule
-        (not
-        (leb 1 (header bs .signals) && leb (header bs .signals) 64
-        && zeros bs 2 6
-        && leb 1 (header bs .ceiling) && leb (header bs .ceiling) (2 ^ 40)))
-        (refuse Table 2 0)
+    (not
+    (leb 1 (header bs .signals) && leb (header bs .signals) 64
+    && zeros bs 2 6
+    && leb 1 (header bs .ceiling) && leb (header bs .ceiling) (2 ^ 40)))
+    (refuse Table 2 0)
     ∷ []
 
 abbrev pub header-from : List ℕ → Result Header Refusal

@@ -1,17 +1,15 @@
 -- What the calls on a table do.
 use mathlib.Core.Path.{_≡_}
 use mathlib.Core.List.{List, [], _∷_}
-use mathlib.Core.Bool.{false}
 use Prim.Native.Nat.{ℕ}
-use lib.ListN.{length}
 use Rattle.std.specs.declared.result.Result.{Result}
 use Rattle.std.specs.declared.result.Result.the-variants.{Ok, Err}
 use Rattle.sva.specs.Formula.{Property}
 use Rattle.sva.specs.Lengths.{horizon}
 use Rattle.fault.specs.Refusals.{table-refusal}
 use Rattle.fault.specs.declared.TableFault.{TableFault}
-use Rattle.nodes.specs.declared.node.Node.{Node}
 use Rattle.nodes.specs.declared.list.Nodes.{Nodes}
+use Rattle.nodes.specs.Rules.{nothing}
 use Rattle.nodes.specs.Lists.{node-list}
 use Rattle.nodes.specs.Trees.{all-facts, largest-lookback}
 use Rattle.table.specs.declared.format.Header.{Header}
@@ -23,7 +21,7 @@ contents t = record { signals = t .nodes .signals; ceiling = t .ceiling; nodes =
 
 -- the table of one node, the constant 0
 abbrev pub fresh : Contents
-fresh = record { signals = 1; ceiling = 1; nodes = Node.Constant false ∷ [] }
+fresh = record { signals = 1; ceiling = 1; nodes = nothing ∷ [] }
 
 -- the property that a table spells
 abbrev pub property-of : Table → Property

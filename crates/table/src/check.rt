@@ -9,6 +9,7 @@ use crate::table::Table;
 use fault::TableFault;
 use nodes::decode::decode;
 use nodes::list::Nodes;
+use nodes::node::BooleanNode;
 use nodes::node::Class;
 use nodes::node::Node;
 
@@ -60,7 +61,7 @@ impl Table {
         ensures { λ r. ⌜ contents r ≡ fresh ⌝ }
     {
         let mut nodes = Nodes::new(1);
-        let _ = nodes.push(Node::Constant { value: false });
+        let _ = nodes.push(Node::Boolean(BooleanNode::Constant { value: false }));
         Table { nodes, ceiling: 1 }
     }
 

@@ -51,7 +51,14 @@ impl Header {
         }
         let signals = bytes[1];
         let ceiling = u64::from_le_bytes([
-            bytes[8], bytes[9], bytes[10], bytes[11], bytes[12], bytes[13], bytes[14], bytes[15],
+            bytes[8],
+            bytes[9],
+            bytes[10],
+            bytes[11],
+            bytes[12],
+            bytes[13],
+            bytes[14],
+            bytes[15],
         ]);
         let zero = bytes[2] == 0
             && bytes[3] == 0
