@@ -1,19 +1,16 @@
 -- What holds of a list of nodes, and of the list with one more that is allowed.
 use mathlib.Core.Path.{_≡_, refl, sym, _∙_, ap, fun-ext, subst}
 use mathlib.Core.List.{List, [], _∷_, _++_, map}
-use mathlib.Core.Bool.{Bool, true, false, not, _&&_, cond}
+use mathlib.Core.Bool.{true}
 use mathlib.Core.Logic.{_⊎_, inl, inr}
 use Prim.Native.Nat.{ℕ, zero, suc, _+_, _<_, _≤_, max}
 use native.Mathlib.Omega.{arith}
 use lib.ListN.{length, getD, take, length-append, length-map, List·getD-append, List·getD-map}
-use lib.Seq.{getD-at, take-at, take-suc, take-append-le, length-take-le}
+use lib.Seq.{getD-at, take-all, take-at, take-suc, take-append-le}
 use Rattle.std.proofs.shelf.Lists.{map-append}
 use Rattle.std.proofs.shelf.Tests.{cases-lt}
-use Rattle.std.specs.declared.option.Option.{Option}
-use Rattle.std.specs.declared.option.Option.the-variants.{Some, None}
 use Rattle.std.specs.declared.result.Result.{Result}
-use Rattle.std.specs.declared.result.Result.the-variants.{Ok, Err}
-use Rattle.fault.specs.First.{Rule, first, allows, unless}
+use Rattle.fault.specs.First.{first, allows, unless}
 use Rattle.fault.specs.declared.Refusal.{Refusal}
 use Rattle.nodes.specs.declared.node.Node.{Node}
 use Rattle.nodes.specs.declared.node.Facts.{Facts}
@@ -96,11 +93,7 @@ first-short s ns kept (suc k) h =
 pub kept-short : (s : ℕ) (ns : List Node) → Kept s ns → All-short (all-facts ns)
 kept-short s ns kept =
     let S : List Node → Type 0 = λ x. All-short (all-facts x) in
-    subst S (take-all ns) (first-short s ns kept (length ns) (omega arith))
-  where
-    take-all : (xs : List Node) → take (length xs) xs ≡ xs
-    take-all [] = refl
-    take-all (x ∷ xs) = ap (λ (r : List Node). x ∷ r) (take-all xs)
+    subst S (take-all (length ns) ns (omega arith)) (first-short s ns kept (length ns) (omega arith))
 
 -- what is answered for a node from the facts is answered from the trees
 pub admitted : (s : ℕ) (ns : List Node) (n : Node) (fs : List Facts) → fs ≡ all-facts ns
@@ -116,22 +109,3 @@ admitted s ns n fs e =
 pub largest-snoc : (fs : List Facts) (f : Facts) → largest-lookback (fs ++ f ∷ []) ≡ max (largest-lookback fs) (f .lookback)
 largest-snoc [] f = omega arith
 largest-snoc (x ∷ fs) f = ap (max (x .lookback)) (largest-snoc fs f) ∙ omega arith
-
--- an answer that is good: no refusal applies, and what the answer is
-pub unless-ok : {A : Type 0} (rs : List Rule) (x y : A) → unless (first rs) x ≡ Ok y → (allows rs ≡ true) × (x ≡ y)
-unless-ok [] x y e = (refl, cc)
-unless-ok {A} (r ∷ rs) x y e = one (r .applies) e (unless-ok rs x y)
-  where
-    one : (b : Bool) → unless (cond b (Some (r .refusal)) (first rs)) x ≡ Ok y → (unless (first rs) x ≡ Ok y → (allows rs ≡ true) × (x ≡ y))
-        → ((not b && allows rs) ≡ true) × (x ≡ y)
-    one true e k = let z : _≡_ {A = ℕ} 0 1 = cc in let z′ : ⊥ = omega arith in absurd z′
-    one false e k = k e
-
--- the refusals decide alone which answer it is
-pub unless-good : {A B : Type 0} (o : Option Refusal) (x y : A) (z : B) → unless o x ≡ Ok y → unless o z ≡ Ok z
-unless-good None x y z e = refl
-unless-good (Some r) x y z e = let w : _≡_ {A = ℕ} 0 1 = cc in let w′ : ⊥ = omega arith in absurd w′
-
-pub unless-bad : {A B : Type 0} (o : Option Refusal) (x : A) (z : B) (r : Refusal) → unless o x ≡ Err r → unless o z ≡ Err r
-unless-bad None x z r e = let w : _≡_ {A = ℕ} 0 1 = cc in let w′ : ⊥ = omega arith in absurd w′
-unless-bad (Some q) x z r e = cc

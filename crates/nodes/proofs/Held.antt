@@ -15,6 +15,7 @@ use Rattle.std.specs.declared.result.Result.{Result}
 use Rattle.std.specs.declared.result.Result.the-variants.{Ok, Err}
 use Rattle.fault.specs.Refusals.{refuse}
 use Rattle.fault.specs.First.{Rule, first, unless}
+use Rattle.fault.proofs.First.{unless-ok, unless-good, unless-bad}
 use Rattle.fault.specs.declared.Layer.the-variants.{Table}
 use Rattle.fault.specs.declared.Refusal.{Refusal}
 use Rattle.nodes.specs.declared.node.Node.{Node}
@@ -26,7 +27,7 @@ use Rattle.nodes.specs.Steps.{known, facts-step, Short, All-short}
 use Rattle.nodes.specs.Lists.{node-list, node-at, facts-at, pushed}
 use Rattle.nodes.proofs.Forest.{unfolds}
 use Rattle.nodes.proofs.Limits.{allowed}
-use Rattle.nodes.proofs.Growth.{admitted, known-all, length-all, kept-short, kept-snoc, all-facts-snoc, largest-snoc, unless-ok, unless-good, unless-bad}
+use Rattle.nodes.proofs.Growth.{admitted, known-all, length-all, kept-short, kept-snoc, all-facts-snoc, largest-snoc}
 
 pub length-nodes : (t : Nodes) → length (node-list t) ≡ t .count
 length-nodes t =

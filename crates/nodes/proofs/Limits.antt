@@ -7,8 +7,9 @@ use native.Mathlib.Omega.{arith}
 use native.Mathlib.Nat.{mul-le-mul}
 use lib.Dec.{eqb, ltb, leb}
 use lib.ListN.{length}
-use Rattle.std.proofs.shelf.Tests.{and-parts, or-parts, eqb-false, ltb-true, ltb-false, leb-true, false≢true, not-true, both-ways}
+use Rattle.std.proofs.shelf.Tests.{and-parts, or-parts, eqb-false, ltb-true, ltb-false, leb-true, not-false}
 use Rattle.fault.specs.First.{allows}
+use Rattle.fault.proofs.First.{allows-parts}
 use Rattle.nodes.specs.declared.node.Node.{Node}
 use Rattle.nodes.specs.declared.node.SequenceNode.{SequenceNode}
 use Rattle.nodes.specs.declared.node.PropertyNode.{PropertyNode}
@@ -24,25 +25,21 @@ pub record Allowed (s : ℕ) (at : ℕ → Facts) (f : Facts) (i : ℕ) (n : Nod
   pub filled : empty at (operands n) ≡ false
   pub limited : over-limit f ≡ false
 
-not-not : (b : Bool) → not (not b) ≡ true → b ≡ true
-not-not true e = refl
-not-not false e = e
-
 pub allowed : (s : ℕ) (at : ℕ → Facts) (f : Facts) (i : ℕ) (n : Node) → allows (node-rules s at f i n) ≡ true → Allowed s at f i n
 allowed s at f i n e =
-    let p = and-parts _ _ e in
-    let q = and-parts _ _ (p .1) in
-    let r = and-parts _ _ (q .1) in
-    let u = and-parts _ _ (r .1) in
-    let v = and-parts _ _ (u .1) in
-    let w = and-parts _ _ (v .1) in
+    let p = allows-parts _ _ e in
+    let q = allows-parts _ _ (p .1) in
+    let r = allows-parts _ _ (q .1) in
+    let u = allows-parts _ _ (r .1) in
+    let v = allows-parts _ _ (u .1) in
+    let w = allows-parts _ _ (v .1) in
     record {
-      earlier = not-not _ (p .0);
-      classed = not-not _ (q .0);
-      ranged = not-not _ (r .0);
-      matched = not-true _ (u .0);
-      filled = not-true _ (v .0);
-      limited = not-true _ (w .0);
+      earlier = not-false _ (p .0);
+      classed = not-false _ (q .0);
+      ranged = not-false _ (r .0);
+      matched = u .0;
+      filled = v .0;
+      limited = w .0;
     }
 
 module _ (fs : List Facts) (short : All-short fs) where

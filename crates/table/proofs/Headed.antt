@@ -6,7 +6,7 @@ use Prim.Native.Nat.{ℕ, _+_, _-_, _*_, _^_, _≤_}
 use native.Mathlib.Omega.{arith}
 use lib.Dec.{eqb, leb}
 use lib.ListN.{length}
-use Rattle.std.proofs.shelf.Tests.{and-parts, leb-true, eqb-true}
+use Rattle.std.proofs.shelf.Tests.{and-parts, not-false, leb-true, eqb-true}
 use Rattle.std.specs.declared.option.Option.the-variants.{Some, None}
 use Rattle.std.specs.declared.result.Result.{Result}
 use Rattle.std.specs.declared.result.Result.the-variants.{Ok, Err}
@@ -16,7 +16,7 @@ use Rattle.fault.specs.declared.Layer.the-variants.{Table}
 use Rattle.fault.specs.declared.Refusal.{Refusal}
 use Rattle.nodes.specs.Bytes.{byte, number, zeros}
 use Rattle.nodes.specs.declared.node.Node.{Node}
-use Rattle.nodes.proofs.Growth.{unless-ok}
+use Rattle.fault.proofs.First.{allows-parts, unless-ok}
 use Rattle.table.specs.declared.format.Header.{Header}
 use Rattle.table.specs.Format.{header, header-rules, header-from}
 use Rattle.table.specs.Contents.{Contents, nodes-upto, as-contents, after-header, spelled, last, last-empty}
@@ -32,21 +32,17 @@ pub record Headed (bs : List ℕ) (h : Header) : Type 0 where
   pub least-rows : 1 ≤ h .ceiling
   pub most-rows : h .ceiling ≤ 2 ^ 40
 
-not-not : (b : Bool) → not (not b) ≡ true → b ≡ true
-not-not true e = refl
-not-not false e = e
-
 pub headed : (bs : List ℕ) (h : Header) → header-from bs ≡ Ok h → Headed bs h
 headed bs h e =
     let u = unless-ok (header-rules bs) (header bs) h e in
-    let p = and-parts _ _ (u .0) in
-    let q = and-parts _ _ (p .1) in
+    let p = allows-parts _ _ (u .0) in
+    let q = allows-parts _ _ (p .1) in
     let n : ℕ = header bs .count in
     let s : ℕ = header bs .signals in
     let c : ℕ = header bs .ceiling in
-    let a = and-parts (leb 1 n && leb n 32) (eqb (length bs) (16 + 8 * n)) (not-not _ (p .0)) in
+    let a = and-parts (leb 1 n && leb n 32) (eqb (length bs) (16 + 8 * n)) (not-false _ (p .0)) in
     let b = and-parts (leb 1 n) (leb n 32) (a .0) in
-    let v = and-parts (leb 1 s && leb s 64 && zeros bs 2 6 && leb 1 c) (leb c (2 ^ 40)) (not-not _ (q .0)) in
+    let v = and-parts (leb 1 s && leb s 64 && zeros bs 2 6 && leb 1 c) (leb c (2 ^ 40)) (not-false _ (q .0)) in
     let w = and-parts (leb 1 s && leb s 64 && zeros bs 2 6) (leb 1 c) (v .0) in
     let x = and-parts (leb 1 s && leb s 64) (zeros bs 2 6) (w .0) in
     let y = and-parts (leb 1 s) (leb s 64) (x .0) in

@@ -13,6 +13,7 @@ use Rattle.std.specs.declared.result.Result.{Result}
 use Rattle.std.specs.declared.result.Result.the-variants.{Ok, Err}
 use Rattle.sva.specs.Lengths.{horizon}
 use Rattle.fault.specs.Refusals.{table-refusal}
+use Rattle.fault.proofs.First.{not-both}
 use Rattle.fault.specs.declared.Refusal.{Refusal}
 use Rattle.fault.specs.declared.TableFault.{TableFault}
 use Rattle.nodes.specs.declared.node.Node.{Node}
@@ -53,10 +54,7 @@ first-node old new (Err f) e s p =
     let P : Result (List Node) Refusal = pushed (old .signals) (node-list old) nothing in
     let q : P ≡ Ok (nothing ∷ []) =
     ap (λ (x : ℕ). pushed x (node-list old) nothing) s ∙ ap (λ (x : List Node). pushed 1 x nothing) e in
-    let o : _≡_ {A = Result (List Node) Refusal} (Err (table-refusal f)) (Ok (nothing ∷ [])) = sym (p .0) ∙ q in
-    let z : _≡_ {A = ℕ} 0 1 = cc in
-    let z′ : ⊥ = omega arith in
-    absurd z′
+    not-both (nothing ∷ []) (table-refusal f) (sym q ∙ p .0)
 
 some-there : {A : Type 0} (b : Bool) (x y : A) → Some x ≡ cond b (Some y) None → (b ≡ true) × (x ≡ y)
 some-there true x y e = (refl, cc)

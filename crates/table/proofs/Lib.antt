@@ -1,3 +1,4 @@
 pub mod Reading
 pub mod Headed
 pub mod Last
+pub mod Exact

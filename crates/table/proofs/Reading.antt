@@ -12,7 +12,8 @@ use Rattle.fault.specs.declared.Refusal.{Refusal}
 use Rattle.nodes.specs.declared.node.Node.{Node}
 use Rattle.nodes.specs.Format.{node-from}
 use Rattle.nodes.specs.Lists.{push-rules, pushed}
-use Rattle.nodes.proofs.Growth.{unless-ok, length-snoc}
+use Rattle.fault.proofs.First.{not-both, unless-ok}
+use Rattle.nodes.proofs.Growth.{length-snoc}
 use Rattle.table.specs.Format.{node-bytes}
 use Rattle.table.specs.Contents.{nodes-upto, next, with-node}
 
@@ -52,12 +53,12 @@ pushed-length s ns ms n e =
     ap length (sym (u .1)) ∙ length-snoc ns n
 
 with-length : (s k : ℕ) (ns ms : List Node) (o : Result Node Refusal) → length ns ≡ k → with-node s ns o ≡ Ok ms → length ms ≡ suc k
-with-length s k ns ms (Err r) l e = let z : _≡_ {A = ℕ} 0 1 = cc in let z′ : ⊥ = omega arith in absurd z′
+with-length s k ns ms (Err r) l e = not-both ms r (sym e)
 with-length s k ns ms (Ok n) l e = let p = pushed-length s ns ms n e in omega arith
 
 next-length : (bs : List ℕ) (s k : ℕ) (ms : List Node) (o : Result (List Node) Refusal)
     → ((ns : List Node) → o ≡ Ok ns → length ns ≡ k) → next bs s k o ≡ Ok ms → length ms ≡ suc k
-next-length bs s k ms (Err r) h e = let z : _≡_ {A = ℕ} 0 1 = cc in let z′ : ⊥ = omega arith in absurd z′
+next-length bs s k ms (Err r) h e = not-both ms r (sym e)
 next-length bs s k ms (Ok ns) h e = with-length s k ns ms (node-from k (node-bytes bs k)) (h ns refl) e
 
 -- as many nodes are read as were asked for

@@ -52,11 +52,14 @@ unfoldable pub nodes-upto : List ℕ → (signals k : ℕ) → Result (List Node
 nodes-upto bs s zero = Ok []
 nodes-upto bs s (suc k) = next bs s k (nodes-upto bs s k)
 
--- all nodes, and then the last node as the property
+-- once all nodes are read, the last one stands for a property
+abbrev pub last-rules : List Node → List Rule
+last-rules ns = rule (last-empty ns) (refuse Table 8 (last ns)) ∷ []
+
 abbrev pub as-contents : Header → Result (List Node) Refusal → Result Contents Refusal
 as-contents h (Err r) = Err r
 as-contents h (Ok ns) =
-    unless (first (rule (last-empty ns) (refuse Table 8 (last ns)) ∷ [])) (record { signals = h .signals; ceiling = h .ceiling; nodes = ns })
+    unless (first (last-rules ns)) (record { signals = h .signals; ceiling = h .ceiling; nodes = ns })
 
 abbrev pub after-header : List ℕ → Result Header Refusal → Result Contents Refusal
 after-header bs (Err r) = Err r

@@ -1,3 +1,4 @@
 pub mod Format
 pub mod Contents
 pub mod Tables
+pub mod Exact

@@ -2,6 +2,7 @@
 ghost use mathlib.Core.Path.{_≡_};
 ghost use Rattle.nodes.specs.Lists.{node-list};
 ghost use Rattle.table.specs.Contents.{last-empty};
+ghost use Rattle.table.specs.Exact.{Exactly};
 ghost use Rattle.table.specs.Tables.{contents, fresh, Reads, Spells, Fills};
 use crate::format::Header;
 use crate::format::node_bytes;
@@ -67,7 +68,8 @@ impl Table {
 
     // Fills the table from the bytes, or leaves it as it is and says why.
     pub fn check(&mut self, bytes: &[u8]) -> Result<(), TableFault>
-        ensures { λ r. ⌜ Fills (now (bytes .entry)) (now (self .entry)) (now (self .exit)) r ⌝ }
+        ensures fills { λ r. ⌜ Fills (now (bytes .entry)) (now (self .entry)) (now (self .exit)) r ⌝ }
+        ensures exactly { λ _. ⌜ Exactly (now (bytes .entry)) ⌝ }
     {
         let table = read(bytes)?;
         *self = table;
