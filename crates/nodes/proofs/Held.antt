@@ -24,30 +24,14 @@ use Rattle.nodes.specs.declared.list.Nodes.{Nodes}
 use Rattle.nodes.specs.Trees.{Tree, build, trees, tree-of, facts-of, all-facts, largest-lookback}
 use Rattle.nodes.specs.Rules.{nothing, node-rules, rules-after, Kept, operands, earlier}
 use Rattle.nodes.specs.Steps.{known, facts-step, Short, All-short}
-use Rattle.nodes.specs.Lists.{node-list, node-at, facts-at, pushed}
+use Rattle.nodes.specs.Lists.{node-list, facts-at, Built, pushed}
 use Rattle.nodes.proofs.Forest.{unfolds}
 use Rattle.nodes.proofs.Limits.{allowed}
-use Rattle.nodes.proofs.Growth.{admitted, known-all, length-all, kept-short, kept-snoc, all-facts-snoc, largest-snoc}
-
-pub length-nodes : (t : Nodes) → length (node-list t) ≡ t .count
-length-nodes t =
-    let room = t .room in
-    let places = t .places in
-    length-take-le (t .count) (t .nodes) (omega arith)
-
-pub node-there : (t : Nodes) (i : ℕ) → i < t .count → Some (getD (t .nodes) i nothing) ≡ node-at (node-list t) i
-node-there t i h =
-    let l : i < length (node-list t) = omega (arith, length-nodes t) in
-    sym (ap (λ b. cond b (Some (getD (node-list t) i nothing)) None) (lt-ltb i (length (node-list t)) l) ∙ ap Some (getD-take (t .count) (t .nodes) i nothing h))
-
-pub node-past : (t : Nodes) (i : ℕ) → t .count ≤ i → None ≡ node-at (node-list t) i
-node-past t i h =
-    let l : length (node-list t) ≤ i = omega (arith, length-nodes t) in
-    sym (ap (λ b. cond b (Some (getD (node-list t) i nothing)) None) (le-ltb i (length (node-list t)) l))
+use Rattle.nodes.proofs.Growth.{length-snoc, admitted, known-all, length-all, kept-short, kept-snoc, all-facts-snoc, largest-snoc}
 
 pub facts-there : (t : Nodes) (i : ℕ) → i < t .count → Some (getD (t .facts) i (facts-of Tree.absent)) ≡ facts-at (node-list t) i
 facts-there t i h =
-    let l : i < length (node-list t) = omega (arith, length-nodes t) in
+    let l : i < length (node-list t) = omega (arith, t .listed) in
     let e : getD (t .facts) i (facts-of Tree.absent) ≡ facts-of (tree-of (node-list t) i) =
     sym (getD-take (t .count) (t .facts) i (facts-of Tree.absent) h)
     ∙ ap (λ (fs : List Facts). getD fs i (facts-of Tree.absent)) (t .right)
@@ -56,11 +40,11 @@ facts-there t i h =
 
 pub facts-past : (t : Nodes) (i : ℕ) → t .count ≤ i → None ≡ facts-at (node-list t) i
 facts-past t i h =
-    let l : length (node-list t) ≤ i = omega (arith, length-nodes t) in
+    let l : length (node-list t) ≤ i = omega (arith, t .listed) in
     sym (ap (λ b. cond b (Some (facts-of (tree-of (node-list t) i))) None) (le-ltb i (length (node-list t)) l))
 
 -- a node's tree is built from those of its operands
-pub tree-unfolds : (t : Nodes) (i : ℕ) → i < length (node-list t) → tree-of (node-list t) i ≡ build (tree-of (node-list t)) (getD (node-list t) i nothing)
+pub tree-unfolds : (t : Nodes) (i : ℕ) → Built (node-list t) i
 tree-unfolds t i h =
     let ns : List Node = node-list t in
     let before : List Node = take i ns in
@@ -76,7 +60,7 @@ answer s fs n = unless (first (node-rules s (known fs) (facts-step (known fs) n)
 -- there is room for one more
 roomy : (t : Nodes) (n : Node) → t .count < 32 → pushed (t .signals) (node-list t) n ≡ unless (first (rules-after (t .signals) (node-list t) n)) (node-list t ++ n ∷ [])
 roomy t n h =
-    let l : length (node-list t) < 32 = omega (arith, length-nodes t) in
+    let l : length (node-list t) < 32 = omega (arith, t .listed) in
     let rs : List Rule = rules-after (t .signals) (node-list t) n in
     ap (λ b. unless (cond b (Some (refuse Table 1 0)) (first rs)) (node-list t ++ n ∷ [])) (lt-leb 32 (length (node-list t)) l)
 
@@ -102,6 +86,7 @@ module _ (t : Nodes) (n : Node) (room : t .count < 32) (fs : List Facts) (lent :
 
 -- a list with one more node
 pub record Grown (t : Nodes) (n : Node) (f : Facts) : Type 0 where
+  pub listed : length (take (t .count + 1) (set (t .nodes) (t .count) n)) ≡ t .count + 1
   pub kept : Kept (t .signals) (take (t .count + 1) (set (t .nodes) (t .count) n))
   pub right : take (t .count + 1) (set (t .facts) (t .count) f) ≡ all-facts (take (t .count + 1) (set (t .nodes) (t .count) n))
   pub widest : max (t .lookback) (f .lookback) ≡ largest-lookback (take (t .count + 1) (set (t .facts) (t .count) f))
@@ -122,6 +107,7 @@ grown t n f room fs lent e =
     rw add-one (take-suc-set (t .facts) (t .count) f (omega arith)) in
     let K : List Node → Type 0 = λ x. Kept s x in
     record {
+      listed = ap length more ∙ length-snoc ns n ∙ ap (λ (k : ℕ). k + 1) (t .listed);
       kept = subst K (sym more) (kept-snoc s ns n (t .kept) (ok .0));
       right = known-more
           ∙ ap (λ (x : List Facts). x ++ f ∷ []) (t .right)

@@ -18,7 +18,7 @@ use Rattle.nodes.specs.declared.node.Node.{Node}
 use Rattle.nodes.specs.declared.node.Facts.{Facts}
 use Rattle.nodes.specs.declared.list.Nodes.{Nodes}
 use Rattle.nodes.specs.Rules.{nothing, rules-after}
-use Rattle.nodes.specs.Trees.{Tree, tree-of, facts-of}
+use Rattle.nodes.specs.Trees.{tree-of, build, facts-of}
 
 -- the nodes that a list holds
 abbrev pub node-list : Nodes → List Node
@@ -38,9 +38,13 @@ Pushes old new n (Ok _) = (pushed (old .signals) (node-list old) n ≡ Ok (node-
 Pushes old new n (Err f) = (pushed (old .signals) (node-list old) n ≡ Err (table-refusal f)) × (new ≡ old)
 
 -- node i, if there is one
-abbrev pub node-at : List Node → ℕ → Option Node
-node-at ns i = cond (ltb i (length ns)) (Some (getD ns i nothing)) None
+abbrev pub node-at : Nodes → ℕ → Option Node
+node-at t i = cond (ltb i (t .count)) (Some (getD (t .nodes) i nothing)) None
 
 -- what is known of node i, if there is one
 abbrev pub facts-at : List Node → ℕ → Option Facts
 facts-at ns i = cond (ltb i (length ns)) (Some (facts-of (tree-of ns i))) None
+
+-- a node's tree is built from those of its operands
+abbrev pub Built : List Node → ℕ → Type 0
+Built ns i = i < length ns → tree-of ns i ≡ build (tree-of ns) (getD ns i nothing)

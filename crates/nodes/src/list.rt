@@ -18,6 +18,7 @@ pub struct Nodes {
     ghost places: { length nodes ≡ 32 },
     ghost entries: { length facts ≡ 32 },
     ghost room: { count ≤ 32 },
+    ghost listed: { length (take count nodes) ≡ count },
     ghost kept: { Kept signals (take count nodes) },
     ghost right: { take count facts ≡ all-facts (take count nodes) },
     ghost widest: { lookback ≡ largest-lookback (take count facts) },

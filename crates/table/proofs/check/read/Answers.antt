@@ -5,7 +5,6 @@ use Rattle.std.specs.declared.result.Result.the-variants.{Ok, Err}
 use Rattle.fault.specs.Refusals.{refuse}
 use Rattle.fault.specs.declared.Layer.the-variants.{Table}
 use Rattle.nodes.specs.Lists.{node-list}
-use Rattle.nodes.proofs.Held.{length-nodes}
 use Rattle.table.specs.Contents.{Contents}
 use Rattle.table.proofs.Headed.{headed, spelled-empty, spelled-whole}
 use Rattle.table.proofs.Reading.{upto-length}
@@ -28,7 +27,7 @@ ghost-result c =
     let e = c .in-Continue-nodes .ensures tt in
     let g = headed bs h (sym (c .in-Continue-header .ensures tt)) in
     let l = upto-length bs (h .signals) (h .count) (node-list t) (e .0) in
-    let k = length-nodes t in
+    let k = t .listed in
     let s = e .1 in
     let a = g .some in
     let b = g .least-signals in

@@ -37,7 +37,7 @@ ghost-self c =
     let places = t .places in
     let entries = t .entries in
     let e = c .max-self .ensures in
-    (simp length-set places, (simp length-set entries, (omega arith, (g .kept, (g .right, (e ∙ g .widest, tt))))))
+    (simp length-set places, (simp length-set entries, (omega arith, (g .listed, (g .kept, (g .right, (e ∙ g .widest, tt)))))))
 
 pub returns : need.returns
 returns c =
