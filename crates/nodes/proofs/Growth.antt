@@ -2,7 +2,7 @@
 use mathlib.Core.Path.{_≡_, refl, sym, _∙_, ap, fun-ext, subst}
 use mathlib.Core.List.{List, [], _∷_, _++_, map}
 use mathlib.Core.Bool.{true}
-use mathlib.Core.Logic.{_⊎_, inl, inr}
+use mathlib.Core.Logic.{inl, inr}
 use Prim.Native.Nat.{ℕ, zero, suc, _+_, _<_, _≤_, max}
 use native.Mathlib.Omega.{arith}
 use lib.ListN.{length, getD, take, length-append, length-map, List·getD-append, List·getD-map}
@@ -14,7 +14,7 @@ use Rattle.fault.specs.First.{first, allows, unless}
 use Rattle.fault.specs.declared.Refusal.{Refusal}
 use Rattle.nodes.specs.declared.node.Node.{Node}
 use Rattle.nodes.specs.declared.node.Facts.{Facts}
-use Rattle.nodes.specs.Trees.{Tree, build, tree-in, trees-from, trees, tree-of, facts-of, all-facts, largest-lookback}
+use Rattle.nodes.specs.Trees.{Tree, build, trees-from, trees, tree-of, facts-of, all-facts, largest-lookback}
 use Rattle.nodes.specs.Rules.{nothing, node-rules, rules-after, Kept}
 use Rattle.nodes.specs.Steps.{known, facts-step, Short, All-short}
 use Rattle.nodes.proofs.Measured.{step-build, admitted-same}

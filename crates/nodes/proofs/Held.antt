@@ -1,15 +1,13 @@
 -- What holds of a list of nodes that is held in arrays.
-use mathlib.Core.Path.{_≡_, refl, sym, _∙_, ap, subst}
+use mathlib.Core.Path.{_≡_, sym, _∙_, ap, subst}
 use mathlib.Core.List.{List, [], _∷_, _++_}
-use mathlib.Core.Bool.{Bool, true, cond}
+use mathlib.Core.Bool.{true, cond}
 use Prim.Native.Nat.{ℕ, suc, _+_, _<_, _≤_, max}
 use native.Mathlib.Omega.{arith}
 use native.Mathlib.Numerals.{add-one}
-use lib.Dec.{ltb, leb}
 use lib.ListN.{length, getD, set, take, List·getD-map}
 use lib.Seq.{getD-take, length-take-le, take-suc-set}
 use Rattle.std.proofs.shelf.Tests.{lt-ltb, le-ltb, lt-leb}
-use Rattle.std.specs.declared.option.Option.{Option}
 use Rattle.std.specs.declared.option.Option.the-variants.{Some, None}
 use Rattle.std.specs.declared.result.Result.{Result}
 use Rattle.std.specs.declared.result.Result.the-variants.{Ok, Err}
@@ -84,12 +82,21 @@ module _ (t : Nodes) (n : Node) (room : t .count < 32) (fs : List Facts) (lent :
       roomy t n room
       ∙ unless-bad (first (rules-after (t .signals) (node-list t) n)) (facts-of (build (tree-of (node-list t)) n)) (node-list t ++ n ∷ []) r (sym tree-answer ∙ sym e)
 
+-- nodes that keep the limits do not look back too far
+largest-short : (fs : List Facts) → All-short fs → largest-lookback fs ≤ 32
+largest-short [] short = omega arith
+largest-short (f ∷ fs) short =
+    let x = short 0 (omega arith) in
+    let y = largest-short fs (λ k h. short (suc k) (omega arith)) in
+    omega arith
+
 -- a list with one more node
 pub record Grown (t : Nodes) (n : Node) (f : Facts) : Type 0 where
   pub listed : length (take (t .count + 1) (set (t .nodes) (t .count) n)) ≡ t .count + 1
   pub kept : Kept (t .signals) (take (t .count + 1) (set (t .nodes) (t .count) n))
   pub right : take (t .count + 1) (set (t .facts) (t .count) f) ≡ all-facts (take (t .count + 1) (set (t .nodes) (t .count) n))
   pub widest : max (t .lookback) (f .lookback) ≡ largest-lookback (take (t .count + 1) (set (t .facts) (t .count) f))
+  pub near : max (t .lookback) (f .lookback) ≤ 32
   pub pushed : pushed (t .signals) (node-list t) n ≡ Ok (take (t .count + 1) (set (t .nodes) (t .count) n))
 
 pub grown : (t : Nodes) (n : Node) (f : Facts) → t .count < 32 → (fs : List Facts) → fs ≡ take (t .count) (t .facts) → Ok f ≡ answer (t .signals) fs n → Grown t n f
@@ -106,17 +113,23 @@ grown t n f room fs lent e =
     let known-more : take (t .count + 1) (set (t .facts) (t .count) f) ≡ take (t .count) (t .facts) ++ f ∷ [] =
     rw add-one (take-suc-set (t .facts) (t .count) f (omega arith)) in
     let K : List Node → Type 0 = λ x. Kept s x in
+    let kept : Kept s (ns ++ n ∷ []) = kept-snoc s ns n (t .kept) (ok .0) in
+    let right : take (t .count + 1) (set (t .facts) (t .count) f) ≡ all-facts (ns ++ n ∷ []) =
+    known-more
+    ∙ ap (λ (x : List Facts). x ++ f ∷ []) (t .right)
+    ∙ ap (λ (x : Facts). all-facts ns ++ x ∷ []) (sym (ok .1))
+    ∙ sym (all-facts-snoc ns n) in
+    let widest : max (t .lookback) (f .lookback) ≡ largest-lookback (take (t .count + 1) (set (t .facts) (t .count) f)) =
+    ap (λ (x : ℕ). max x (f .lookback)) (t .widest)
+    ∙ sym (largest-snoc (take (t .count) (t .facts)) f)
+    ∙ ap largest-lookback (sym known-more) in
+    let least : largest-lookback (all-facts (ns ++ n ∷ [])) ≤ 32 = largest-short (all-facts (ns ++ n ∷ [])) (kept-short s (ns ++ n ∷ []) kept) in
     record {
       listed = ap length more ∙ length-snoc ns n ∙ ap (λ (k : ℕ). k + 1) (t .listed);
-      kept = subst K (sym more) (kept-snoc s ns n (t .kept) (ok .0));
-      right = known-more
-          ∙ ap (λ (x : List Facts). x ++ f ∷ []) (t .right)
-          ∙ ap (λ (x : Facts). all-facts ns ++ x ∷ []) (sym (ok .1))
-          ∙ sym (all-facts-snoc ns n)
-          ∙ ap all-facts (sym more);
-      widest = ap (λ (x : ℕ). max x (f .lookback)) (t .widest)
-          ∙ sym (largest-snoc (take (t .count) (t .facts)) f)
-          ∙ ap largest-lookback (sym known-more);
+      kept = subst K (sym more) kept;
+      right = right ∙ ap all-facts (sym more);
+      widest = widest;
+      near = omega (arith, widest ∙ ap largest-lookback right);
       pushed = roomy t n room ∙ unless-good (first rs) g f (ns ++ n ∷ []) u ∙ ap Ok (sym more);
     }
 
@@ -127,14 +140,3 @@ node-short t i h =
     let l : i < length (all-facts ns) = omega (arith, length-all ns) in
     let S : (ℕ → Facts) → Type 0 = λ at. Short (at i) in
     subst S (known-all ns) (kept-short (t .signals) ns (t .kept) i l)
-
-largest-short : (fs : List Facts) → All-short fs → largest-lookback fs ≤ 32
-largest-short [] short = omega arith
-largest-short (f ∷ fs) short =
-    let x = short 0 (omega arith) in
-    let y = largest-short fs (λ k h. short (suc k) (omega arith)) in
-    omega arith
-
--- and so does their largest lookback
-pub lookback-short : (t : Nodes) → largest-lookback (all-facts (node-list t)) ≤ 32
-lookback-short t = largest-short (all-facts (node-list t)) (kept-short (t .signals) (node-list t) (t .kept))

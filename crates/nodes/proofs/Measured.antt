@@ -1,13 +1,13 @@
 -- What is known of a node, step by step, is what is known of its tree.
 use mathlib.Core.Path.{_≡_, refl, sym, _∙_, ap}
-use mathlib.Core.List.{List, [], _∷_}
-use mathlib.Core.Bool.{Bool, true, false, not, _&&_, cond}
-use Prim.Native.Nat.{ℕ, _+_, _-_, _*_, min, max}
+use mathlib.Core.List.{[], _∷_}
+use mathlib.Core.Bool.{Bool, true, false, not}
+use Prim.Native.Nat.{ℕ, _-_}
 use Rattle.std.proofs.shelf.Tests.{and-parts, false≢true}
 use Rattle.std.specs.declared.result.Result.{Result}
 use Rattle.sva.specs.Formula.{Boolean, Sequence, Property}
 use Rattle.sva.specs.Lengths.{lo, hi, horizon, boolean-lookback, sequence-lookback, lookback}
-use Rattle.fault.specs.First.{Rule, rule, first, unless}
+use Rattle.fault.specs.First.{rule, first, unless}
 use Rattle.fault.specs.Refusals.{refuse}
 use Rattle.fault.specs.declared.Layer.the-variants.{Table}
 use Rattle.fault.specs.declared.Refusal.{Refusal}

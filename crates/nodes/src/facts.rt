@@ -2,7 +2,7 @@
 ghost use mathlib.Core.Path.{_≡_};
 ghost use mathlib.Core.Bool.{true, false};
 ghost use lib.ListN.{length};
-ghost use Rattle.nodes.specs.Rules.{earlier, boolean-operands, sequence-operands, property-operands, operands as operands-of, boolean-ranged, sequence-ranged, property-ranged, ranged, sequence-crossed, property-crossed, crossed};
+ghost use Rattle.nodes.specs.Rules.{earlier, boolean-operands, sequence-operands, property-operands, operands as operands-of, sequence-ranged, ranged, sequence-crossed, property-crossed, crossed};
 ghost use Rattle.nodes.specs.Steps.{known, boolean-step, sequence-step, property-step, facts-step, All-short};
 ghost use Rattle.nodes.specs.Trees.{boolean-facts, sequence-facts, property-facts};
 use crate::node::BooleanNode;

@@ -22,4 +22,5 @@ pub struct Nodes {
     ghost kept: { Kept signals (take count nodes) },
     ghost right: { take count facts ≡ all-facts (take count nodes) },
     ghost widest: { lookback ≡ largest-lookback (take count facts) },
+    ghost near: { lookback ≤ 32 },
 }

@@ -6,7 +6,7 @@ ghost use lib.Dec.{ltb, eqb};
 ghost use lib.ListN.{length};
 ghost use Rattle.fault.specs.First.{first, unless};
 ghost use Rattle.nodes.specs.Format.{told};
-ghost use Rattle.nodes.specs.Rules.{each-of, some-of, stands-for, sequence-for-property, earlier as are-earlier, classed as are-classed, empty as are-empty, boolean-ranged, sequence-ranged, property-ranged, ranged as is-ranged, sequence-crossed, property-crossed, crossed as is-crossed, over-limit, node-rules, operands as operands-of, sequence-operands, property-operands};
+ghost use Rattle.nodes.specs.Rules.{each-of, some-of, stands-for, sequence-for-property, earlier as are-earlier, classed as are-classed, empty as are-empty, ranged as is-ranged, sequence-crossed, crossed as is-crossed, over-limit, node-rules, operands as operands-of, sequence-operands};
 ghost use Rattle.nodes.specs.Steps.{known, facts-step, All-short};
 use crate::facts::facts_of;
 use crate::node::BooleanNode;

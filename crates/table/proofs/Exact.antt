@@ -1,7 +1,7 @@
 -- Exactly the bytes that are a table are accepted.
 use mathlib.Core.Path.{_≡_, refl, sym, _∙_, ap, subst}
 use mathlib.Core.List.{List, [], _∷_, _++_}
-use mathlib.Core.Bool.{Bool, true, false, not, _&&_}
+use mathlib.Core.Bool.{true, false, _&&_}
 use Prim.Native.Nat.{ℕ, zero, suc, _+_, _-_, _*_, _^_, _<_, _≤_}
 use native.Mathlib.Omega.{arith}
 use lib.Dec.{leb, eqb}
@@ -13,7 +13,7 @@ use Rattle.std.specs.declared.result.Result.the-variants.{Ok, Err}
 use Rattle.fault.specs.First.{allows}
 use Rattle.fault.specs.declared.Refusal.{Refusal}
 use Rattle.fault.proofs.First.{not-both, allows-parts, unless-ok, allowed-ok}
-use Rattle.nodes.specs.Bytes.{byte, number, zeros}
+use Rattle.nodes.specs.Bytes.{zeros}
 use Rattle.nodes.specs.Format.{node-from}
 use Rattle.nodes.specs.Rules.{nothing, rules-after, Kept}
 use Rattle.nodes.specs.Lists.{push-rules, pushed}
@@ -23,7 +23,7 @@ use Rattle.table.specs.declared.format.Header.{Header}
 use Rattle.table.specs.Format.{header, header-rules, header-from, node-bytes}
 use Rattle.table.specs.Contents.{Contents, last-empty, last-rules, with-node, next, nodes-upto, as-contents, after-header, spelled}
 use Rattle.table.specs.Exact.{Is-table, Exactly}
-use Rattle.table.proofs.Headed.{Headed, headed, spelled-whole}
+use Rattle.table.proofs.Headed.{headed, spelled-whole}
 use Rattle.table.proofs.Reading.{upto-length}
 
 -- the nodes that were read are those of the bytes, and keep the rules

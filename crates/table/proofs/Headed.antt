@@ -1,7 +1,7 @@
 -- What a header that is not refused says.
-use mathlib.Core.Path.{_≡_, refl, sym, _∙_, ap}
+use mathlib.Core.Path.{_≡_, _∙_, ap}
 use mathlib.Core.List.{List}
-use mathlib.Core.Bool.{Bool, true, false, not, _&&_, cond}
+use mathlib.Core.Bool.{Bool, true, false, _&&_, cond}
 use Prim.Native.Nat.{ℕ, _+_, _-_, _*_, _^_, _≤_}
 use native.Mathlib.Omega.{arith}
 use lib.Dec.{eqb, leb}
@@ -14,7 +14,7 @@ use Rattle.fault.specs.Refusals.{refuse}
 use Rattle.fault.specs.First.{unless}
 use Rattle.fault.specs.declared.Layer.the-variants.{Table}
 use Rattle.fault.specs.declared.Refusal.{Refusal}
-use Rattle.nodes.specs.Bytes.{byte, number, zeros}
+use Rattle.nodes.specs.Bytes.{zeros}
 use Rattle.nodes.specs.declared.node.Node.{Node}
 use Rattle.fault.proofs.First.{allows-parts, unless-ok}
 use Rattle.table.specs.declared.format.Header.{Header}

@@ -1,5 +1,4 @@
 -- What a table's bytes spell.
-use mathlib.Core.Path.{_≡_}
 use mathlib.Core.List.{List, [], _∷_}
 use mathlib.Core.Bool.{Bool, _&&_}
 use Prim.Native.Nat.{ℕ, zero, suc, _-_}
@@ -14,7 +13,6 @@ use Rattle.fault.specs.declared.Layer.the-variants.{Table}
 use Rattle.fault.specs.declared.Refusal.{Refusal}
 use Rattle.nodes.specs.declared.node.Node.{Node}
 use Rattle.nodes.specs.declared.node.Class.{Class}
-use Rattle.nodes.specs.declared.node.Facts.{Facts}
 use Rattle.nodes.specs.Format.{node-from}
 use Rattle.nodes.specs.Rules.{sequence-for-property}
 use Rattle.nodes.specs.Trees.{tree-of, facts-of, as-property}

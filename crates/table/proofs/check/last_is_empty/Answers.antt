@@ -1,4 +1,4 @@
-use mathlib.Core.Path.{_≡_, sym, _∙_, ap}
+use mathlib.Core.Path.{_∙_, ap}
 use Prim.Native.Nat.{ℕ, _-_}
 use Rattle.nodes.specs.Lists.{node-list}
 use Rattle.table.proofs.Last.{last-none}

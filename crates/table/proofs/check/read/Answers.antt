@@ -1,11 +1,10 @@
-use mathlib.Core.Path.{_≡_, sym, _∙_, ap}
-use Prim.Native.Nat.{ℕ, _-_, _≤_}
+use mathlib.Core.Path.{sym, _∙_, ap}
+use Prim.Native.Nat.{ℕ, _-_}
 use native.Mathlib.Omega.{arith}
 use Rattle.std.specs.declared.result.Result.the-variants.{Ok, Err}
 use Rattle.fault.specs.Refusals.{refuse}
 use Rattle.fault.specs.declared.Layer.the-variants.{Table}
 use Rattle.nodes.specs.Lists.{node-list}
-use Rattle.table.specs.Contents.{Contents}
 use Rattle.table.proofs.Headed.{headed, spelled-empty, spelled-whole}
 use Rattle.table.proofs.Reading.{upto-length}
 use Rattle.table.proofs.check.read.Needs as need

@@ -5,4 +5,4 @@ use Rattle.nodes.proofs.list.Nodes.new.Needs as need
 
 pub ghost-result : need.ghost-result
 unfolding trees-from
-ghost-result c = (refl, (refl, (omega arith, (refl, ((λ i h. let z : ⊥ = omega arith in absurd z), (refl, (refl, tt)))))))
+ghost-result c = (refl, (refl, (omega arith, (refl, ((λ i h. let z : ⊥ = omega arith in absurd z), (refl, (refl, (omega arith, tt))))))))

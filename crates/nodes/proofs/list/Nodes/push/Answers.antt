@@ -1,13 +1,12 @@
-use mathlib.Core.Path.{_≡_, refl, sym, _∙_, ap}
+use mathlib.Core.Path.{_≡_, refl, _∙_, ap}
 use mathlib.Core.List.{List}
 use Prim.Native.Nat.{ℕ, _-_}
 use native.Mathlib.Omega.{arith}
 use native.Mathlib.Nat.{sub-zero}
 use lib.ListN.{take, length-set}
 use Rattle.std.proofs.shelf.Results.{err-from-errBy}
-use Rattle.fault.specs.Refusals.{table-refusal}
 use Rattle.nodes.specs.declared.node.Facts.{Facts}
-use Rattle.nodes.proofs.Held.{few, lent-short, push-refused, Grown, grown}
+use Rattle.nodes.proofs.Held.{few, lent-short, push-refused, grown}
 use Rattle.nodes.proofs.list.Nodes.push.Needs as need
 
 -- the part of an array from its start
@@ -37,7 +36,8 @@ ghost-self c =
     let places = t .places in
     let entries = t .entries in
     let e = c .max-self .ensures in
-    (simp length-set places, (simp length-set entries, (omega arith, (g .listed, (g .kept, (g .right, (e ∙ g .widest, tt)))))))
+    let near = g .near in
+    (simp length-set places, (simp length-set entries, (omega arith, (g .listed, (g .kept, (g .right, (e ∙ g .widest, (omega arith, tt))))))))
 
 pub returns : need.returns
 returns c =
