@@ -1,8 +1,8 @@
 #!/usr/bin/env python3
 """Writes the cases of crates/trials and the samples of crates/inspect.
 
-The expected answers come from `verdict` below, which is written from docs/table-format.md alone and
-shares nothing with the proved code. Run it from the top of the repository:
+The expected answers come from `verdict` and `span` below, which are written from docs/table-format.md alone and
+share nothing with the proved code. Run it from the top of the repository:
 
     python3 tools/table_cases.py
 """
@@ -135,7 +135,8 @@ def node(i, word, signals, known):
     return found
 
 
-def verdict(data):
+def examine(data):
+    """The refusal as text, or the horizon and the lookback."""
     count = data[0] if data else 0
     if not 1 <= count <= 32 or len(data) != 16 + 8 * count:
         return "refused 1 0"
@@ -151,9 +152,24 @@ def verdict(data):
     last = known[-1]
     if last["class"] == SEQUENCE and last["lo"] == 0:
         return f"refused 8 {count - 1}"
-    ahead, back = last["horizon"], max(k["back"] for k in known)
-    scratch = (count + 2) * ((ahead + 2) ** 2 + back)
+    return last["horizon"], max(k["back"] for k in known)
+
+
+def verdict(data):
+    found = examine(data)
+    if isinstance(found, str):
+        return found
+    ahead, back = found
+    scratch = (data[0] + 2) * ((ahead + 2) ** 2 + back)
     return f"accepted, horizon {ahead}, lookback {back}, scratch {scratch}"
+
+
+def span(data, start):
+    found = examine(data)
+    if isinstance(found, str):
+        return found
+    ahead, back = found
+    return "refused 16 0" if start > 2**40 else f"span {max(0, start - back)} to {start + ahead}"
 
 
 def word(kind, a=0, b=0, m=0, n=0):
@@ -329,6 +345,19 @@ def hand_cases():
     yield "a[*0:1] ##1 b", table(ABC + [maybe, word(16, 3, 1, 1, 1)])
 
 
+def span_cases():
+    """(title, bytes, start): starts before and behind the lookback, and both sides of the last start."""
+    tables = [
+        ("a |=> b", table(ABC + [word(36, 0, 1)])),
+        ("past(a, 3) |=> b", table(ABC + [word(6, 0, m=3), word(36, 3, 1)])),
+        ("lookback 32, horizon 31", table([A, word(6, 0, m=16), word(6, 1, m=16), word(38, 2, m=31)])),
+        ("a lookback of 5 that is not used", table([A, word(6, 0, m=5), B])),
+    ]
+    for title, data in tables:
+        for start in (0, 1, 2, 3, 4, 5, 31, 32, 33, 2**40 - 1, 2**40, 2**40 + 1, 2**41, 2**64 - 1):
+            yield f"{title}, start {start}", data, start
+
+
 def random_tables(count):
     """Tables that are mostly right, with a field changed here and there."""
     rng = random.Random(1800)
@@ -387,8 +416,11 @@ def samples():
 
 def main():
     cases = list(hand_cases()) + list(random_tables(300))
+    spans = list(span_cases())
     stdin = "".join(f"{title}; {data.hex(' ')}\n" for title, data in cases)
+    stdin += "".join(f"{title}; {data.hex(' ')}; {start}\n" for title, data, start in spans)
     stdout = "".join(f"{title}: {verdict(data)}\n" for title, data in cases)
+    stdout += "".join(f"{title}: {span(data, start)}\n" for title, data, start in spans)
     Path("crates/trials/stdin").write_text(stdin)
     Path("crates/trials/stdout").write_text(stdout)
     folder = Path("crates/inspect/data")
@@ -396,7 +428,7 @@ def main():
     for name, data in samples():
         (folder / name).write_bytes(data)
     numbers = sorted({line.rsplit("refused ", 1)[1].split()[0] for line in stdout.splitlines() if "refused" in line})
-    print(len(cases), "cases; refusals reached:", " ".join(numbers))
+    print(len(cases), "tables,", len(spans), "spans; refusals reached:", " ".join(numbers))
 
 
 main()

@@ -8,6 +8,7 @@ mod form;
 use fault::Fault;
 use fault::FaultDisplay;
 use fault::FaultFromTable;
+use fault::FaultFromUnroll;
 use fault::TableFault;
 use form::Extent;
 use form::ExtentDisplay;
@@ -68,6 +69,24 @@ fn show_steps(rt: &LibcRuntime, bytes: &[u8]) -> io::Result<()> {
     show_nodes(rt, bytes, header)
 }
 
+// The last cycle at which a property is tried.
+const LATEST_START: u64 = 1 << 40;
+
+// The cycles that the verdict of a start depends on.
+fn show_span(rt: &LibcRuntime, table: &Table, start: u64) -> io::Result<()> {
+    match table.span(start) {
+        Ok(span) => {
+            let first = span.first;
+            let last = span.last;
+            println!(rt, "  span of start {start}: cycles {first} to {last}")
+        }
+        Err(fault) => {
+            let refused = Fault::from(fault);
+            println!(rt, "  span of start {start}: {refused}")
+        }
+    }
+}
+
 fn show_accepted(rt: &LibcRuntime, table: &Table) -> io::Result<()> {
     let horizon = table.horizon();
     let lookback = table.lookback();
@@ -76,7 +95,9 @@ fn show_accepted(rt: &LibcRuntime, table: &Table) -> io::Result<()> {
     println!(
         rt,
         "accepted: horizon {horizon}, lookback {lookback}, widest span {span} cycles, scratch {scratch} values"
-    )
+    )?;
+    show_span(rt, table, 0)?;
+    show_span(rt, table, LATEST_START)
 }
 
 // Bytes in hexadecimal.

@@ -1,3 +1,10 @@
 pub mod Formula
 pub mod Lengths
 pub mod Span
+pub mod Ranges
+pub mod Trace
+pub mod Meaning
+pub mod Satisfaction
+pub mod Laws
+pub mod Verdicts
+pub mod Examples

@@ -4,9 +4,28 @@ ghost use Prim.Native.Nat.{_≤_};
 ghost use lib.ListN.{length};
 ghost use Rattle.nodes.specs.Lists.{node-list};
 ghost use Rattle.sva.specs.Span.{widest-span, scratch-length};
+ghost use Rattle.table.specs.Spans.{span-within, span-of, answered, Span-suffices};
 ghost use Rattle.table.specs.Tables.{horizon-of, lookback-of};
+use crate::span::Span;
 use crate::table::Table;
+use fault::UnrollFault;
 use nodes::list::Nodes;
+
+// The last cycle at which a property is tried: 2^40.
+const LAST_START: u64 = 1 << 40;
+
+// The cycles from `lookback` before a start, or the first there is, to `horizon` behind it.
+fn span_within(horizon: u16, lookback: u16, start: u64) -> Result<Span, UnrollFault>
+    ensures { λ r. ⌜ answered r ≡ span-within horizon lookback start ⌝ }
+{
+    if start > LAST_START {
+        return Err(UnrollFault::Start);
+    }
+    Ok(Span {
+        first: start.saturating_sub(lookback as u64),
+        last: start + horizon as u64,
+    })
+}
 
 impl Table {
     // The nodes; the last one is the property.
@@ -54,5 +73,12 @@ impl Table {
         ensures { λ r. ⌜ r ≡ scratch-length (length (node-list (now (self .entry) .nodes))) (horizon-of (now (self .entry))) (lookback-of (now (self .entry))) ⌝ }
     {
         sva::scratch_length(self.nodes.count(), self.horizon(), self.lookback())
+    }
+    // The span of a start: two traces that are alike in its cycles give the start the same verdict.
+    pub fn span(&self, start: u64) -> Result<Span, UnrollFault>
+        ensures value { λ r. ⌜ answered r ≡ span-of (now (self .entry)) start ⌝ }
+        ensures suffices { λ _. ⌜ Span-suffices (now (self .entry)) start ⌝ }
+    {
+        span_within(self.horizon(), self.lookback(), start)
     }
 }

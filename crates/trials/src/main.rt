@@ -1,9 +1,11 @@
 // Checks tables, one a line of standard input, and prints what became of each.
 //
-// A line is a title, a semicolon and the table's bytes in hexadecimal. The lines and the answers
-// that they should get are made by tools/table_cases.py.
+// A line is a title, a semicolon and the table's bytes in hexadecimal; behind a further semicolon
+// there may be a start, whose span is then asked for. The lines and the answers that they should get
+// are made by tools/table_cases.py.
 use fault::Fault;
 use fault::FaultFromTable;
+use fault::FaultFromUnroll;
 use std::alloc::Global;
 use std::error::AnyError;
 use std::io::BufRead;
@@ -30,21 +32,47 @@ fn show_accepted(rt: &LibcRuntime, title: &str, table: &Table) -> Result<(), Any
     Ok(())
 }
 
-fn try_line(rt: &LibcRuntime, line: &str) -> Result<(), AnyError> {
-    let Some((title, text)) = line.split_once(';') else {
-        return Err("a line has no semicolon".into());
-    };
-    let bytes = parse(rt.alloc(), text)?;
-    let mut table = Table::new();
-    match table.check(&bytes) {
-        Ok(()) => show_accepted(rt, title, &table),
-        Err(fault) => {
-            let refused = Fault::from(fault);
-            let number = refused.number();
-            let place = refused.place();
-            println!(rt, "{title}: refused {number} {place}")?;
+fn show_refused(rt: &LibcRuntime, title: &str, refused: Fault) -> Result<(), AnyError> {
+    let number = refused.number();
+    let place = refused.place();
+    println!(rt, "{title}: refused {number} {place}")?;
+    Ok(())
+}
+
+fn show_span(rt: &LibcRuntime, title: &str, table: &Table, start: u64) -> Result<(), AnyError> {
+    match table.span(start) {
+        Ok(span) => {
+            let first = span.first;
+            let last = span.last;
+            println!(rt, "{title}: span {first} to {last}")?;
             Ok(())
         }
+        Err(fault) => show_refused(rt, title, Fault::from(fault)),
+    }
+}
+
+fn try_table(
+    rt: &LibcRuntime,
+    title: &str,
+    text: &str,
+    start: Option<u64>,
+) -> Result<(), AnyError> {
+    let bytes = parse(rt.alloc(), text)?;
+    let mut table = Table::new();
+    match (table.check(&bytes), start) {
+        (Ok(()), None) => show_accepted(rt, title, &table),
+        (Ok(()), Some(start)) => show_span(rt, title, &table, start),
+        (Err(fault), _) => show_refused(rt, title, Fault::from(fault)),
+    }
+}
+
+fn try_line(rt: &LibcRuntime, line: &str) -> Result<(), AnyError> {
+    let Some((title, rest)) = line.split_once(';') else {
+        return Err("a line has no semicolon".into());
+    };
+    match rest.split_once(';') {
+        Some((text, start)) => try_table(rt, title, text, Some(start.trim().parse::<u64>()?)),
+        None => try_table(rt, title, rest, None),
     }
 }
 

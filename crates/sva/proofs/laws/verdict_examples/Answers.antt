@@ -1,0 +1,5 @@
+use Rattle.sva.proofs.Examples.{examples}
+use Rattle.sva.proofs.laws.verdict_examples.Needs as need
+
+pub returns : need.returns
+returns c = examples
