@@ -22,6 +22,7 @@ use std::fs;
 use std::io;
 use table::format::Header;
 use table::format::node_bytes;
+use table::span::LAST_START;
 use table::table::Table;
 
 // One line for a node that was taken.
@@ -69,9 +70,6 @@ fn show_steps(rt: &LibcRuntime, bytes: &[u8]) -> io::Result<()> {
     show_nodes(rt, bytes, header)
 }
 
-// The last cycle at which a property is tried.
-const LATEST_START: u64 = 1 << 40;
-
 // The cycles that the verdict of a start depends on.
 fn show_span(rt: &LibcRuntime, table: &Table, start: u64) -> io::Result<()> {
     match table.span(start) {
@@ -97,7 +95,7 @@ fn show_accepted(rt: &LibcRuntime, table: &Table) -> io::Result<()> {
         "accepted: horizon {horizon}, lookback {lookback}, widest span {span} cycles, scratch {scratch} values"
     )?;
     show_span(rt, table, 0)?;
-    show_span(rt, table, LATEST_START)
+    show_span(rt, table, LAST_START)
 }
 
 // Bytes in hexadecimal.

@@ -1,6 +1,6 @@
 -- The tests of the meaning find exactly what the unbounded relation says.
 use mathlib.Core.Path.{_≡_, refl, sym, _∙_, ap}
-use mathlib.Core.Logic.{_⊎_, inl, inr, _↔_, Iff·trans, Iff·and, ∥∥₁-elim, ∥∥₁-map}
+use mathlib.Core.Logic.{inl, inr, _↔_, ∥∥₁-elim, ∥∥₁-map}
 use mathlib.Core.Bool.{Bool, true, false, not, _&&_, _||_}
 use mathlib.Core.HLevel.{⊥-prop}
 use Prim.Native.Nat.{ℕ, zero, suc, _+_, _-_, _≤_, _<_, max}
@@ -10,13 +10,13 @@ use Rattle.std.proofs.shelf.Tests.{and-from, and-parts, or-cases, or-left, or-r
 use Rattle.sva.specs.declared.verdict.Verdict.{Verdict}
 use Rattle.sva.specs.Formula.{Boolean, Sequence, Property}
 use Rattle.sva.specs.Lengths.{hi}
-use Rattle.sva.specs.Meaning.{value, matches, splits, holds, live, judge, verdict}
+use Rattle.sva.specs.Meaning.{value, matches, splits, holds, live, judge}
 use Rattle.sva.specs.Ranges.{some, some-below, each, each-below}
 use Rattle.sva.specs.Satisfaction.{Exists, True, Splits, Matches, Holds, Live, Has-verdict, Decides}
 use Rattle.sva.specs.Trace.{Trace}
 use Rattle.sva.proofs.Bounds.{bounds}
-use Rattle.sva.proofs.Found.{Tells, for-some, tells-not, tells-and, tells-or, tells-if, tells-some, tells-each}
-use Rattle.sva.proofs.Ranges.{found, finds, every}
+use Rattle.sva.proofs.Tells.{Tells, for-some, tells-not, tells-and, tells-or, tells-if, tells-some, tells-each}
+use Rattle.sva.proofs.Ranges.{found, finds}
 
 is-failed : Verdict → Bool
 is-failed Verdict.Failed = true

@@ -1,6 +1,6 @@
 pub mod Ranges
 pub mod Bounds
-pub mod Found
+pub mod Tells
 pub mod Decides
 pub mod Depends
 pub mod Examples

@@ -32,8 +32,8 @@ pub record Same (p : Property) (start : ℕ) (τ υ : Trace) : Type 0 where
 abbrev pub Spans : (horizon lookback : ℕ) → Property → (start : ℕ) → Type 0
 Spans h l p s = (τ υ : Trace) → Alike (span-first l s) (suc (span-last h s)) τ υ → Same p s τ υ
 
-abbrev pub Span-suffices : Type 0
-Span-suffices = (p : Property) (start : ℕ) → Spans (horizon p) (lookback p) p start
+abbrev pub Spans-suffice : Type 0
+Spans-suffice = (p : Property) (start : ℕ) → Spans (horizon p) (lookback p) p start
 
 -- the tests find exactly what the unbounded relation says
 abbrev pub Tests-decide : Type 0

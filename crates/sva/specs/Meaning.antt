@@ -35,8 +35,8 @@ matches (Sequence.repeat m n a) τ s e = some m n (λ j. splits (matches a τ) j
 matches (Sequence.or a b) τ s e = matches a τ s e || matches b τ s e
 matches (Sequence.intersect a b) τ s e = matches a τ s e && matches b τ s e
 matches (Sequence.and a b) τ s e =
-    matches a τ s e && some s e (λ k. matches b τ s k)
-    || matches b τ s e && some s e (λ k. matches a τ s k)
+    (matches a τ s e && some s e (λ k. matches b τ s k))
+    || (matches b τ s e && some s e (λ k. matches a τ s k))
 matches (Sequence.throughout x b) τ s e = matches b τ s e && each-below s e (λ c. value x τ c)
 matches (Sequence.within a b) τ s e = matches b τ s e && some s e (λ i. some i e (λ j. matches a τ i j))
 matches (Sequence.first-match a) τ s e = matches a τ s e && not (some-below s e (λ k. matches a τ s k))
@@ -53,7 +53,7 @@ holds (Property.nexttime m p) τ s = holds p τ (s + m)
 holds (Property.always m n p) τ s = each (s + m) (s + n) (λ c. holds p τ c)
 holds (Property.eventually m n p) τ s = some (s + m) (s + n) (λ c. holds p τ c)
 
--- a property is put to the test at cycle s: it does not hold, if it does, for want of a match alone
+-- a property is live at cycle s: something there puts it to the test
 abbrev pub live : Property → Trace → (s : ℕ) → Bool
 live (Property.sequence a) τ s = true
 live (Property.not p) τ s = live p τ s
@@ -65,6 +65,7 @@ live (Property.nexttime m p) τ s = live p τ (s + m)
 live (Property.always m n p) τ s = some (s + m) (s + n) (λ c. live p τ c)
 live (Property.eventually m n p) τ s = some (s + m) (s + n) (λ c. live p τ c)
 
+-- failed where the property does not hold; else it depends on whether it is live
 abbrev pub judge : (holds live : Bool) → Verdict
 judge false l = Verdict.Failed
 judge true true = Verdict.Held

@@ -54,7 +54,7 @@ Holds (Property.nexttime m p) τ s = Holds p τ (s + m)
 Holds (Property.always m n p) τ s = (c : ℕ) → s + m ≤ c → c ≤ s + n → Holds p τ c
 Holds (Property.eventually m n p) τ s = Exists (λ c. (s + m ≤ c) × (c ≤ s + n) × Holds p τ c)
 
--- a property is put to the test at cycle s
+-- a property is live at cycle s: something there puts it to the test
 abbrev pub Live : Property → Trace → (s : ℕ) → Type 0
 Live (Property.sequence a) τ s = Unit {0}
 Live (Property.not p) τ s = Live p τ s

@@ -12,7 +12,7 @@ Trace = (cycle signal : ℕ) → Bool
 
 -- signal k is bit k of a row
 abbrev pub bit : (row k : ℕ) → Bool
-bit row k = eqb (row / 2 ^ k % 2) 1
+bit row k = eqb ((row / 2 ^ k) % 2) 1
 
 -- the trace of a list of rows: row c is cycle c; behind the last one all signals are low
 abbrev pub recorded : List ℕ → Trace

@@ -1,7 +1,7 @@
 // The laws about the meaning, and its worked examples. Each is what a function promises, so that
 // the crate is proved only with it. None of them has anything to do.
 ghost use Rattle.sva.specs.Examples.{Examples};
-ghost use Rattle.sva.specs.Laws.{Match-lengths, Match-reads, Span-suffices, Tests-decide};
+ghost use Rattle.sva.specs.Laws.{Match-lengths, Match-reads, Spans-suffice, Tests-decide};
 
 // The worked examples have the verdicts that they should.
 pub fn verdict_examples()
@@ -25,5 +25,5 @@ pub fn match_reads()
 
 // Two traces that are alike in each cycle of a start's span give it the same verdict.
 pub fn span_suffices()
-    ensures { λ _. ⌜ Span-suffices ⌝ }
+    ensures { λ _. ⌜ Spans-suffice ⌝ }
 {}

@@ -6,13 +6,11 @@ ghost use Rattle.nodes.specs.Lists.{node-list};
 ghost use Rattle.sva.specs.Span.{widest-span, scratch-length};
 ghost use Rattle.table.specs.Spans.{span-within, span-of, answered, Span-suffices};
 ghost use Rattle.table.specs.Tables.{horizon-of, lookback-of};
+use crate::span::LAST_START;
 use crate::span::Span;
 use crate::table::Table;
 use fault::UnrollFault;
 use nodes::list::Nodes;
-
-// The last cycle at which a property is tried: 2^40.
-const LAST_START: u64 = 1 << 40;
 
 // The cycles from `lookback` before a start, or the first there is, to `horizon` behind it.
 fn span_within(horizon: u16, lookback: u16, start: u64) -> Result<Span, UnrollFault>

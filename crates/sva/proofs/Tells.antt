@@ -1,10 +1,9 @@
 -- Tests and the statements that they decide, put together.
 use mathlib.Core.Path.{_≡_, refl}
-use mathlib.Core.Logic.{_⊎_, inl, inr, _↔_, _∨₁_, ∥∥₁-elim, ∥∥₁-map}
+use mathlib.Core.Logic.{inl, inr, _↔_, _∨₁_, ∥∥₁-elim}
 use mathlib.Core.Bool.{Bool, true, false, not, _&&_, _||_, Bool-set}
-use Prim.Native.Nat.{ℕ, suc, _≤_, _<_}
-use native.Mathlib.Omega.{arith}
-use Rattle.std.proofs.shelf.Tests.{and-from, and-parts, or-cases, or-left, or-right, not-true, not-from-false, both-ways, cases-bool, false≢true}
+use Prim.Native.Nat.{ℕ, _≤_, _<_}
+use Rattle.std.proofs.shelf.Tests.{and-from, and-parts, or-cases, or-left, or-right, false≢true}
 use Rattle.sva.specs.Ranges.{some-below, each-below}
 use Rattle.sva.specs.Satisfaction.{Exists}
 use Rattle.sva.proofs.Ranges.{found, finds, at-each, every}
