@@ -24,6 +24,11 @@ abbrev pub allows : List Rule → Bool
 allows [] = true
 allows (r ∷ rs) = not (r .applies) && allows rs
 
+-- an answer, with the refusal that its fault tells
+abbrev pub told : {A F : Type 0} → (F → Refusal) → Result A F → Result A Refusal
+told refusal (Ok x) = Ok x
+told refusal (Err f) = Err (refusal f)
+
 -- an answer, unless a refusal applies
 abbrev pub unless : {A : Type 0} → Option Refusal → A → Result A Refusal
 unless None x = Ok x

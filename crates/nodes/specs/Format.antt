@@ -5,21 +5,15 @@ use Prim.Native.Nat.{ℕ}
 use lib.Dec.{eqb, ltb}
 use Rattle.std.specs.declared.result.Result.{Result}
 use Rattle.std.specs.declared.result.Result.the-variants.{Ok, Err}
-use Rattle.fault.specs.Refusals.{refuse, table-refusal}
+use Rattle.fault.specs.Refusals.{refuse}
 use Rattle.fault.specs.declared.Layer.the-variants.{Table}
 use Rattle.fault.specs.declared.Refusal.{Refusal}
-use Rattle.fault.specs.declared.TableFault.{TableFault}
 use Rattle.nodes.specs.declared.node.Node.{Node}
 use Rattle.nodes.specs.declared.node.BooleanNode.{BooleanNode}
 use Rattle.nodes.specs.declared.node.SequenceNode.{SequenceNode}
 use Rattle.nodes.specs.declared.node.PropertyNode.{PropertyNode}
 use Rattle.nodes.specs.declared.decode.Fields.{Fields}
 use Rattle.nodes.specs.Bytes.{byte}
-
--- an answer, with the refusal that its fault tells
-abbrev pub told : {A : Type 0} → Result A TableFault → Result A Refusal
-told (Ok x) = Ok x
-told (Err f) = Err (table-refusal f)
 
 -- the fields are zero that a node does not use which has
 -- no operand and one number

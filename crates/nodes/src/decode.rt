@@ -1,6 +1,8 @@
 // How eight bytes spell a node.
 ghost use mathlib.Core.Path.{_≡_};
-ghost use Rattle.nodes.specs.Format.{node-from, spelled, boolean-from, sequence-from, property-from, leaf as is-leaf, unary as is-unary, binary as is-binary, counted as is-counted, ranged as is-ranged, told};
+ghost use Rattle.fault.specs.First.{told};
+ghost use Rattle.fault.specs.Refusals.{table-refusal};
+ghost use Rattle.nodes.specs.Format.{node-from, spelled, boolean-from, sequence-from, property-from, leaf as is-leaf, unary as is-unary, binary as is-binary, counted as is-counted, ranged as is-ranged};
 use crate::node::BooleanNode;
 use crate::node::Node;
 use crate::node::PropertyNode;
@@ -52,7 +54,7 @@ impl Fields {
 }
 
 fn boolean(f: Fields, node: u8) -> Result<Node, TableFault>
-    ensures { λ r. ⌜ told r ≡ boolean-from node f ⌝ }
+    ensures { λ r. ⌜ told table-refusal r ≡ boolean-from node f ⌝ }
 {
     let Fields {
         kind,
@@ -74,7 +76,7 @@ fn boolean(f: Fields, node: u8) -> Result<Node, TableFault>
 }
 
 fn sequence(f: Fields, node: u8) -> Result<Node, TableFault>
-    ensures { λ r. ⌜ told r ≡ sequence-from node f ⌝ }
+    ensures { λ r. ⌜ told table-refusal r ≡ sequence-from node f ⌝ }
 {
     let Fields { kind, a, b, m, n } = f;
     match kind {
@@ -92,7 +94,7 @@ fn sequence(f: Fields, node: u8) -> Result<Node, TableFault>
 }
 
 fn property(f: Fields, node: u8) -> Result<Node, TableFault>
-    ensures { λ r. ⌜ told r ≡ property-from node f ⌝ }
+    ensures { λ r. ⌜ told table-refusal r ≡ property-from node f ⌝ }
 {
     let Fields { kind, a, b, m, n } = f;
     match kind {
@@ -110,7 +112,7 @@ fn property(f: Fields, node: u8) -> Result<Node, TableFault>
 
 // The node that the fields spell: kinds below 16 are Booleans, below 32 sequences.
 fn spell(f: Fields, node: u8) -> Result<Node, TableFault>
-    ensures { λ r. ⌜ told r ≡ spelled node f ⌝ }
+    ensures { λ r. ⌜ told table-refusal r ≡ spelled node f ⌝ }
 {
     if f.kind < 16 {
         boolean(f, node)
@@ -123,7 +125,7 @@ fn spell(f: Fields, node: u8) -> Result<Node, TableFault>
 
 // The node that eight bytes spell, or why they spell none; `node` is the number that it would have.
 pub fn decode(bytes: [u8; 8], node: u8) -> Result<Node, TableFault>
-    ensures { λ r. ⌜ told r ≡ node-from node bytes ⌝ }
+    ensures { λ r. ⌜ told table-refusal r ≡ node-from node bytes ⌝ }
 {
     let [kind, a, b, x, m, n, y, z] = bytes;
     if x == 0 && y == 0 && z == 0 {

@@ -4,8 +4,8 @@ ghost use mathlib.Core.Bool.{true, _&&_};
 ghost use Prim.Native.Nat.{_<_};
 ghost use lib.Dec.{ltb, eqb};
 ghost use lib.ListN.{length};
-ghost use Rattle.fault.specs.First.{first, unless};
-ghost use Rattle.nodes.specs.Format.{told};
+ghost use Rattle.fault.specs.First.{first, unless, told};
+ghost use Rattle.fault.specs.Refusals.{table-refusal};
 ghost use Rattle.nodes.specs.Rules.{each-of, some-of, stands-for, sequence-for-property, earlier as are-earlier, classed as are-classed, empty as are-empty, ranged as is-ranged, sequence-crossed, crossed as is-crossed, over-limit, node-rules, operands as operands-of, sequence-operands};
 ghost use Rattle.nodes.specs.Steps.{known, facts-step, All-short};
 use crate::facts::facts_of;
@@ -157,7 +157,7 @@ fn over_limit(facts: Facts) -> bool
 pub(crate) fn admit(node: Node, signals: u8, facts: &[Facts]) -> Result<Facts, TableFault>
     requires few { ⌜ length (now facts) < 32 ⌝ }
     requires short { ⌜ All-short (now facts) ⌝ }
-    ensures { λ r. ⌜ told r ≡ unless (first (node-rules signals (known (now (facts .entry))) (facts-step (known (now (facts .entry))) node) (length (now (facts .entry))) node)) (facts-step (known (now (facts .entry))) node) ⌝ }
+    ensures { λ r. ⌜ told table-refusal r ≡ unless (first (node-rules signals (known (now (facts .entry))) (facts-step (known (now (facts .entry))) node) (length (now (facts .entry))) node)) (facts-step (known (now (facts .entry))) node) ⌝ }
 {
     let i = facts.len() as u8;
     let taken = operands(node);

@@ -4,14 +4,12 @@ use mathlib.Core.Bool.{not}
 use Prim.Native.Nat.{ℕ, _^_}
 use lib.Dec.{leb}
 use Rattle.std.specs.declared.result.Result.{Result}
-use Rattle.std.specs.declared.result.Result.the-variants.{Ok, Err}
 use Rattle.sva.specs.Laws.{Spans}
 use Rattle.sva.specs.Span.{span-first, span-last}
 use Rattle.fault.specs.First.{Rule, rule, first, unless}
-use Rattle.fault.specs.Refusals.{refuse, unroll-refusal}
+use Rattle.fault.specs.Refusals.{refuse}
 use Rattle.fault.specs.declared.Layer.the-variants.{Unroll}
 use Rattle.fault.specs.declared.Refusal.{Refusal}
-use Rattle.fault.specs.declared.UnrollFault.{UnrollFault}
 use Rattle.table.specs.declared.span.Span.{Span}
 use Rattle.table.specs.declared.table.Table.{Table}
 use Rattle.table.specs.Tables.{property-of, horizon-of, lookback-of}
@@ -26,11 +24,6 @@ span-within h l s = unless (first (start-rules s)) (record { first = span-first 
 
 abbrev pub span-of : Table → (start : ℕ) → Result Span Refusal
 span-of t s = span-within (horizon-of t) (lookback-of t) s
-
--- an answer, with the refusal that its fault tells
-abbrev pub answered : Result Span UnrollFault → Result Span Refusal
-answered (Ok x) = Ok x
-answered (Err f) = Err (unroll-refusal f)
 
 -- two traces that are alike in each cycle of the start's span give it the same verdict
 abbrev pub Span-suffices : Table → (start : ℕ) → Type 0

@@ -1,7 +1,8 @@
 // The header of a table's bytes, and where its nodes lie.
 ghost use mathlib.Core.Path.{_≡_};
+ghost use Rattle.fault.specs.First.{told};
+ghost use Rattle.fault.specs.Refusals.{table-refusal};
 ghost use Rattle.nodes.specs.Bytes.{byte as byte-of};
-ghost use Rattle.nodes.specs.Format.{told};
 ghost use Rattle.table.specs.Format.{header-from, node-bytes};
 use fault::TableFault;
 
@@ -43,7 +44,7 @@ pub fn node_bytes(bytes: &[u8], i: u8) -> [u8; 8]
 impl Header {
     // What the header says, or why the bytes have no header of a table.
     pub fn read(bytes: &[u8]) -> Result<Header, TableFault>
-        ensures { λ r. ⌜ told r ≡ header-from (now (bytes .entry)) ⌝ }
+        ensures { λ r. ⌜ told table-refusal r ≡ header-from (now (bytes .entry)) ⌝ }
     {
         let count = byte(bytes, 0);
         if count < 1 || count > 32 || bytes.len() != 16 + 8 * count as usize {

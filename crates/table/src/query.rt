@@ -2,9 +2,11 @@
 ghost use mathlib.Core.Path.{_≡_};
 ghost use Prim.Native.Nat.{_≤_};
 ghost use lib.ListN.{length};
+ghost use Rattle.fault.specs.First.{told};
+ghost use Rattle.fault.specs.Refusals.{unroll-refusal};
 ghost use Rattle.nodes.specs.Lists.{node-list};
 ghost use Rattle.sva.specs.Span.{widest-span, scratch-length};
-ghost use Rattle.table.specs.Spans.{span-within, span-of, answered, Span-suffices};
+ghost use Rattle.table.specs.Spans.{span-within, span-of, Span-suffices};
 ghost use Rattle.table.specs.Tables.{horizon-of, lookback-of};
 use crate::span::LAST_START;
 use crate::span::Span;
@@ -14,7 +16,7 @@ use nodes::list::Nodes;
 
 // The cycles from `lookback` before a start, or the first there is, to `horizon` behind it.
 fn span_within(horizon: u16, lookback: u16, start: u64) -> Result<Span, UnrollFault>
-    ensures { λ r. ⌜ answered r ≡ span-within horizon lookback start ⌝ }
+    ensures { λ r. ⌜ told unroll-refusal r ≡ span-within horizon lookback start ⌝ }
 {
     if start > LAST_START {
         return Err(UnrollFault::Start);
@@ -74,7 +76,7 @@ impl Table {
     }
     // The span of a start: two traces that are alike in its cycles give the start the same verdict.
     pub fn span(&self, start: u64) -> Result<Span, UnrollFault>
-        ensures value { λ r. ⌜ answered r ≡ span-of (now (self .entry)) start ⌝ }
+        ensures value { λ r. ⌜ told unroll-refusal r ≡ span-of (now (self .entry)) start ⌝ }
         ensures suffices { λ _. ⌜ Span-suffices (now (self .entry)) start ⌝ }
     {
         span_within(self.horizon(), self.lookback(), start)
