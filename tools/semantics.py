@@ -42,13 +42,13 @@ class Reader:
         self.at += 1
         return token
 
-    def numbers(self, close="]"):
+    def numbers(self):
         low = int(self.take())
         high = low
         if self.peek() == ":":
             self.take()
             high = int(self.take())
-        self.take(close)
+        self.take("]")
         return low, high
 
     def item(self):
@@ -322,11 +322,11 @@ def main():
     stated = Path("crates/sva/specs/Examples.antt").read_text()
     there = [" ".join(s.split()) for s in re.findall(r"\(.* on [0-9 ∷\[\]]* gives [\w ∷\[\]]*\)", stated)]
     missing = [s for s in wanted if s not in there]
-    extra = [s for s in there if s not in wanted]
+    extra = [s for k, s in enumerate(there) if s not in wanted or s in there[:k]]
     for s in missing:
         print("not stated:", s)
     for s in extra:
-        print("not on the page:", s)
+        print("not on the page, or stated twice:", s)
     print(f"{len(page)} examples, {wrong} wrong; {len(there)} statements, {len(missing)} missing, {len(extra)} more")
     sys.exit(1 if wrong or missing or extra else 0)
 

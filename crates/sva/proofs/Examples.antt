@@ -1,6 +1,16 @@
 -- Every worked example stands, by computation.
 use mathlib.Core.Path.{refl}
+use mathlib.Core.List.{[], _∷_}
+use Prim.Native.Nat.{zero, suc}
+use native.Mathlib.Omega.{arith}
 use Rattle.sva.specs.Examples.{Examples}
+use Rattle.sva.specs.Trace.{recorded, Alike}
+
+between : Alike 1 3 (recorded (0 ∷ 1 ∷ 2 ∷ 7 ∷ [])) (recorded (5 ∷ 1 ∷ 2 ∷ 0 ∷ []))
+between zero k l u = let z : ⊥ = omega arith in absurd z
+between (suc zero) k l u = refl
+between (suc (suc zero)) k l u = refl
+between (suc (suc (suc c))) k l u = let z : ⊥ = omega arith in absurd z
 
 pub examples : Examples
 examples = record {
@@ -34,4 +44,11 @@ examples = record {
   live-nexttime = (refl, refl);
   live-ranges = (refl, refl, refl, refl, refl, refl, refl, refl, refl);
   decided = (refl, refl, refl, refl);
+  span = (refl, refl, refl, refl);
+  alike = between;
+  lengths = ((refl, refl), (refl, refl), (refl, refl), (refl, refl), (refl, refl), (refl, refl), (refl, refl), (refl, refl), (refl, refl), (refl, refl), (refl, refl), (refl, refl), (refl, refl), (refl, refl), (refl, refl), (refl, refl));
+  horizons = (refl, refl, refl, refl, refl, refl, refl, refl, refl, refl, refl);
+  boolean-lookbacks = (refl, refl, refl, refl, refl, refl, refl, refl);
+  sequence-lookbacks = (refl, (refl, refl), (refl, refl), refl, (refl, refl), (refl, refl), (refl, refl), refl, refl, (refl, refl), refl);
+  lookbacks = (refl, refl, refl, refl, refl, refl, refl, refl, refl, refl, refl, refl, refl);
 }

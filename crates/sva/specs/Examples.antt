@@ -1,6 +1,7 @@
 -- Worked examples of the meaning, on three signals a, b and c. A row is a number: 1 is a, 2 is b,
 -- 4 is c, and a sum is a row in which several are high. docs/semantics.md has the same examples;
--- tools/semantics.py compares the two and works them out a second time.
+-- tools/semantics.py compares the two and works them out a second time. Those of lengths, horizons
+-- and lookbacks are in docs/table-format.md.
 use mathlib.Core.Path.{_≡_}
 use mathlib.Core.Bool.{true, false}
 use mathlib.Core.List.{List, [], _∷_}
@@ -8,11 +9,13 @@ use Prim.Native.Nat.{ℕ}
 use Rattle.sva.specs.declared.verdict.Verdict.{Verdict}
 use Rattle.sva.specs.declared.verdict.Verdict.the-variants.{Failed, Held, Vacuous}
 use Rattle.sva.specs.Formula.{Boolean, Sequence, Property}
-use Rattle.sva.specs.Lengths.{horizon}
-use Rattle.sva.specs.Trace.{recorded}
+use Rattle.sva.specs.Lengths.{lo, hi, horizon, boolean-lookback, sequence-lookback, lookback}
+use Rattle.sva.specs.Span.{span-first, span-last}
+use Rattle.sva.specs.Trace.{recorded, Alike}
 use Rattle.sva.specs.Verdicts.{verdicts, open-starts}
 
 infix 50 _on_gives_
+infix 50 _takes_to_
 -- on these rows the decided starts of the property have these verdicts
 abbrev pub _on_gives_ : Property → List ℕ → List Verdict → Type 0
 p on rows gives vs = verdicts p rows ≡ vs
@@ -43,6 +46,41 @@ bool x = Property.sequence (Sequence.boolean x)
 -- a sequence as a property
 abbrev seq : Sequence → Property
 seq s = Property.sequence s
+
+-- a sequence of 2 to 5 cycles and one of 3 to 4
+abbrev x : Sequence
+x = Sequence.repeat 2 5 a
+
+abbrev y : Sequence
+y = Sequence.repeat 3 4 b
+
+-- a sequence is so many cycles long at least and at most
+abbrev pub _takes_to_ : Sequence → ℕ → ℕ → Type 0
+s takes l to h = (lo s ≡ l) × (hi s ≡ h)
+
+-- properties with horizons 3 and 5
+abbrev near : Property
+near = Property.nexttime 3 (bool A)
+
+abbrev far : Property
+far = Property.nexttime 5 (bool B)
+
+-- what looks 2 and what looks 3 cycles back
+abbrev P : Boolean
+P = Boolean.past 2 A
+
+abbrev Q : Boolean
+Q = Boolean.past 3 B
+
+abbrev p : Sequence
+p = Sequence.boolean P
+
+abbrev q : Sequence
+q = Sequence.boolean Q
+
+-- of two operands in either order the one that looks further back counts
+abbrev pub Largest-back : (Sequence → Sequence → Sequence) → Type 0
+Largest-back f = (sequence-lookback (f p q) ≡ 3) × (sequence-lookback (f q p) ≡ 3)
 
 pub record Examples : Type 0 where
   -- row 6 has signals 1 and 2 high; behind the rows all signals are low
@@ -247,3 +285,72 @@ pub record Examples : Type 0 where
       × (Property.implies-next a (bool B) on 0 ∷ 0 ∷ [] gives Vacuous ∷ [])
       × (horizon (Property.implies-next a (bool B)) ≡ 1)
       × (open-starts (Property.implies-next a (bool B)) (1 ∷ 2 ∷ 3 ∷ 0 ∷ []) ≡ 1)
+  -- horizon 1, lookback 2: start 5 has the cycles 3 to 6, start 1 the cycles 0 to 2
+  pub span : (span-first 2 5 ≡ 3) × (span-last 1 5 ≡ 6) × (span-first 2 1 ≡ 0) × (span-last 1 1 ≡ 2)
+  -- rows that differ in cycles 0 and 3 are alike in cycles 1 and 2
+  pub alike : Alike 1 3 (recorded (0 ∷ 1 ∷ 2 ∷ 7 ∷ [])) (recorded (5 ∷ 1 ∷ 2 ∷ 0 ∷ []))
+  -- lengths, operator by operator
+  pub lengths :
+      (a takes 1 to 1)
+      × (Sequence.delay 2 3 x y takes 6 to 11)
+      × (Sequence.fusion x y takes 4 to 8)
+      × (Sequence.fusion (Sequence.repeat 0 1 a) y takes 3 to 4)
+      × (Sequence.fusion y (Sequence.repeat 0 1 a) takes 3 to 4)
+      × (Sequence.repeat 2 3 x takes 4 to 15)
+      × (Sequence.or x y takes 2 to 5)
+      × (Sequence.or y x takes 2 to 5)
+      × (Sequence.intersect x y takes 3 to 4)
+      × (Sequence.intersect y x takes 3 to 4)
+      × (Sequence.and x y takes 3 to 5)
+      × (Sequence.and y x takes 3 to 5)
+      × (Sequence.throughout C x takes 2 to 5)
+      × (Sequence.within x y takes 3 to 4)
+      × (Sequence.within y x takes 3 to 5)
+      × (Sequence.first-match x takes 2 to 5)
+  pub horizons :
+      (horizon (seq x) ≡ 4)
+      × (horizon (Property.not near) ≡ 3)
+      × (horizon (Property.or near far) ≡ 5)
+      × (horizon (Property.or far near) ≡ 5)
+      × (horizon (Property.and near far) ≡ 5)
+      × (horizon (Property.and far near) ≡ 5)
+      × (horizon (Property.implies x near) ≡ 7)
+      × (horizon (Property.implies-next x near) ≡ 8)
+      × (horizon (Property.nexttime 2 near) ≡ 5)
+      × (horizon (Property.always 1 2 near) ≡ 5)
+      × (horizon (Property.eventually 1 2 near) ≡ 5)
+  pub boolean-lookbacks :
+      (boolean-lookback (Boolean.constant true) ≡ 0)
+      × (boolean-lookback A ≡ 0)
+      × (boolean-lookback (Boolean.not P) ≡ 2)
+      × (boolean-lookback (Boolean.and P Q) ≡ 3)
+      × (boolean-lookback (Boolean.and Q P) ≡ 3)
+      × (boolean-lookback (Boolean.or P Q) ≡ 3)
+      × (boolean-lookback (Boolean.or Q P) ≡ 3)
+      × (boolean-lookback (Boolean.past 3 P) ≡ 5)
+  pub sequence-lookbacks :
+      (sequence-lookback p ≡ 2)
+      × Largest-back (Sequence.delay 1 2)
+      × Largest-back Sequence.fusion
+      × (sequence-lookback (Sequence.repeat 2 3 p) ≡ 2)
+      × Largest-back Sequence.or
+      × Largest-back Sequence.intersect
+      × Largest-back Sequence.and
+      × (sequence-lookback (Sequence.throughout P q) ≡ 3)
+      × (sequence-lookback (Sequence.throughout Q p) ≡ 3)
+      × Largest-back Sequence.within
+      × (sequence-lookback (Sequence.first-match p) ≡ 2)
+  pub lookbacks :
+      (lookback (seq p) ≡ 2)
+      × (lookback (Property.not (seq p)) ≡ 2)
+      × (lookback (Property.or (seq p) (seq q)) ≡ 3)
+      × (lookback (Property.or (seq q) (seq p)) ≡ 3)
+      × (lookback (Property.and (seq p) (seq q)) ≡ 3)
+      × (lookback (Property.and (seq q) (seq p)) ≡ 3)
+      × (lookback (Property.implies p (seq q)) ≡ 3)
+      × (lookback (Property.implies q (seq p)) ≡ 3)
+      × (lookback (Property.implies-next p (seq q)) ≡ 3)
+      × (lookback (Property.implies-next q (seq p)) ≡ 3)
+      × (lookback (Property.nexttime 1 (seq p)) ≡ 2)
+      × (lookback (Property.always 1 2 (seq p)) ≡ 2)
+      × (lookback (Property.eventually 1 2 (seq p)) ≡ 2)

@@ -3,8 +3,8 @@
 ghost use Rattle.sva.specs.Examples.{Examples};
 ghost use Rattle.sva.specs.Laws.{Match-lengths, Match-reads, Spans-suffice, Tests-decide};
 
-// The worked examples have the verdicts that they should.
-pub fn verdict_examples()
+// The worked examples have the verdicts, lengths, horizons, lookbacks and spans that they should.
+pub fn meaning_examples()
     ensures { λ _. ⌜ Examples ⌝ }
 {}
 

@@ -74,6 +74,7 @@ impl Table {
     {
         sva::scratch_length(self.nodes.count(), self.horizon(), self.lookback())
     }
+
     // The span of a start: two traces that are alike in its cycles give the start the same verdict.
     pub fn span(&self, start: u64) -> Result<Span, UnrollFault>
         ensures value { λ r. ⌜ told unroll-refusal r ≡ span-of (now (self .entry)) start ⌝ }
