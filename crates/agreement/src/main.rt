@@ -1,3 +1,5 @@
+#![tactic(auto)]
+
 // Works out Boolean expressions over the rows domain and over the gates domain, one a line of
 // standard input, and prints what both make of each.
 //

@@ -1,3 +1,5 @@
+#![tactic(auto)]
+
 // Boolean domains. A domain issues values, each with a truth under each of its readings, and joins
 // them by operations. Code that is generic over domains works out a truth over recorded rows and
 // builds a formula for a solver by the same text and the same proof.

@@ -1,3 +1,5 @@
+#![tactic(auto)]
+
 // Every refusal of the monitor and the unroller, by the layer that gives it.
 //
 // A refusal has a number, a place and a layer, and keeps them through every caller. `refusal_of` in

@@ -1,3 +1,5 @@
+#![tactic(auto)]
+
 // The gates domain: a formula as a list of gates, an and-inverter graph.
 pub mod gate;
 pub mod list;

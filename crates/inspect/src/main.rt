@@ -1,3 +1,5 @@
+#![tactic(auto)]
+
 // Shows what a table says, node by node, and whether a monitor takes it.
 //
 //     inspect [FILE..]

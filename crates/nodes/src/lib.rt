@@ -1,3 +1,5 @@
+#![tactic(auto)]
+
 // The nodes of a table: how eight bytes spell one, which may follow which, and the tree that each
 // stands for.
 pub mod build;

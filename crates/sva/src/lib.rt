@@ -1,3 +1,5 @@
+#![tactic(auto)]
+
 // The meaning of bounded SystemVerilog assertions. It stands in specs/: trees, lengths, spans, and
 // when a sequence matches and a property holds. The code here is the arithmetic on a table's
 // horizon and lookback, and verdicts.

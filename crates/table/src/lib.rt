@@ -1,3 +1,5 @@
+#![tactic(auto)]
+
 // Checked tables: the bytes of a property, read once and from then on known to keep every rule.
 pub mod check;
 pub mod format;

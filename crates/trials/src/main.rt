@@ -1,3 +1,5 @@
+#![tactic(auto)]
+
 // Checks tables, one a line of standard input, and prints what became of each.
 //
 // A line is a title, a semicolon and the table's bytes in hexadecimal; behind a further semicolon
