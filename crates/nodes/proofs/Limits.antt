@@ -1,5 +1,5 @@
 -- What is known of a node that no refusal applies to.
-use Rattle.std.proofs.Common.{◌≡◌, ℕ, ◌-◌, ◌≤◌, Bool, true, false, ◌&&◌, ◌||◌, eqb, ltb, leb, List, length, mul-le-mul, arith}
+use Rattle.std.proofs.Common.{◌≡◌, ℕ, ◌≤◌, Bool, true, false, ◌&&◌, ◌||◌, eqb, ltb, leb, List, length, mul-le-mul, arith}
 use Rattle.std.proofs.lemmas.Bool.{and_parts, or_parts, eqb-false, ltb-true, ltb-false, leb-true, not-false}
 use Rattle.fault.specs.First.{allows}
 use Rattle.fault.proofs.First.{allows_parts}

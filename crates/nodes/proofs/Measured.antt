@@ -1,7 +1,6 @@
 -- What is known of a node, step by step, is what is known of its tree.
-use Rattle.std.proofs.Common.{◌≡◌, ℕ, ◌-◌, Bool, true, false, not, [], ◌∷◌, Result, sym, refl, ap, ◌∙◌}
+use Rattle.std.proofs.Common.{◌≡◌, ℕ, Bool, true, false, not, [], ◌∷◌, Result, sym, refl, ap, ◌∙◌}
 use Rattle.std.proofs.lemmas.Bool.{and_parts, false≢true}
-use Rattle.sva.specs.Formula.{Boolean, Sequence, Property}
 use Rattle.sva.specs.Lengths.{lo, hi, horizon, boolean_lookback, sequence_lookback, lookback}
 use Rattle.fault.specs.First.{rule, first, unless}
 use Rattle.fault.specs.Refusals.{refuse}

@@ -17,27 +17,36 @@ admit-requires c =
     let e = lent t.count t.facts in
     record { few = few t n room _ e; short = lent_short t n room _ e }
 
-pub returns-in-err-known : goal.returns-in-err-known
-returns-in-err-known c =
+pub returns-in_err-known : goal.returns-in_err-known
+returns-in_err-known c =
     let t = c.args.self.now in
-    let p = err_from_is_err_and c.from-residual.result c.from-residual.ensures.1 in
+    let p = err_from_is_err_and c.from_residual.result c.from_residual.ensures.1 in
     rw (p.1, p.2)
-    (push_refused t c.args.node c.if-count-ge32.false _ (lent t.count t.facts) _ c.in-err-known.ensures, refl)
+    (push_refused t c.args.node c.if-count-ge32.false _ (lent t.count t.facts) _ c.in_err-known.ensures, refl)
 
-pub invariant-of-self : goal.invariant-of-self
-invariant-of-self c =
+pub invariant_of-self : goal.invariant_of-self
+invariant_of-self c =
     let t = c.args.self.now in
-    let f = c.in-ok-known.known in
-    let g = grown t c.args.node f c.if-count-ge32.false _ (lent t.count t.facts) c.in-ok-known.ensures in
+    let f = c.in_ok-known.known in
+    let g = grown t c.args.node f c.if-count-ge32.false _ (lent t.count t.facts) c.in_ok-known.ensures in
     let places = t.places in
     let entries = t.entries in
     let e = c.max-self.ensures in
     let near = g.near in
-    (simp length-set places, (simp length-set entries, (omega arith, (g.listed, (g.kept, (g.right, (e ∙ g.widest, (omega arith, tt))))))))
+    record {
+      places = simp length-set places;
+      entries = simp length-set entries;
+      room = omega arith;
+      listed = g.listed;
+      kept = g.kept;
+      right = g.right;
+      widest = e ∙ g.widest;
+      near = omega arith;
+    }
 
 pub returns : goal.returns
 returns c =
     let t = c.args.self.now in
-    let f = c.in-ok-known.known in
-    let g = grown t c.args.node f c.if-count-ge32.false _ (lent t.count t.facts) c.in-ok-known.ensures in
+    let f = c.in_ok-known.known in
+    let g = grown t c.args.node f c.if-count-ge32.false _ (lent t.count t.facts) c.in_ok-known.ensures in
     (g.pushed, refl)
