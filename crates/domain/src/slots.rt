@@ -13,7 +13,7 @@ fn fill<V: Copy>(slots: &mut [V], value: V)
 
 // Every slot becomes the constant false.
 pub fn clear<D: Lattice>(domain: &D, slots: &mut [D::Value])
-    ensures { slots.new ≡ replicate (length slots.old) (fixed false) }
+    ensures { slots.new ≡ replicate (length slots.old) (D.fixed false) }
 {
     fill(slots, domain.constant(false));
 }

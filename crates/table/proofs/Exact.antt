@@ -1,5 +1,5 @@
 -- Exactly the bytes that are a table are accepted.
-use Rattle.std.proofs.Common.{◌≡◌, ℕ, zero, suc, ◌+◌, ◌-◌, ◌*◌, ◌^◌, ◌<◌, ◌≤◌, true, false, ◌&&◌, eqb, leb, List, [], ◌∷◌, ◌++◌, length, get_or, take, Ok, Err, Result, sym, refl, ap, ◌∙◌, subst, arith, length-take-le, take_all, take-suc}
+use Rattle.std.proofs.Common.{◌≡◌, ℕ, zero, suc, ◌+◌, ◌*◌, ◌^◌, ◌<◌, ◌≤◌, true, false, ◌&&◌, eqb, leb, List, [], ◌∷◌, ◌++◌, length, get_or, take, Ok, Err, Result, sym, refl, ap, ◌∙◌, subst, arith, length-take-le, take_all, take-suc}
 use Rattle.std.proofs.lemmas.Bool.{and_from, not_from_false, not_from_true, le-leb, lt-leb, eq-eqb}
 use Rattle.fault.specs.First.{allows}
 use Rattle.fault.specs.declared.Refusal.{Refusal}

@@ -5,5 +5,5 @@ use Rattle.table.proofs.check.last_is_empty.Goals as goal
 
 pub returns-in-None : goal.returns-in-None
 returns-in-None c =
-    last_none (node_list c.args.nodes.now) c.saturating-sub.result
-    (c.saturating-sub.ensures ∙ ap (λ (k : ℕ). k - 1) c.count.ensures) c.in-None.ensures.value
+    last_none (node_list c.args.nodes.now) c.saturating_sub.result
+    (c.saturating_sub.ensures ∙ ap (λ (k : ℕ). k - 1) c.count.ensures) c.in-None.ensures.value

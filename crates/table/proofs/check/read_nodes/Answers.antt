@@ -12,42 +12,42 @@ pub loop-i-init : goal.loop-i-init
 unfolding nodes_upto
 loop-i-init c = (ap Ok (sym c.new-nodes.ensures.nodes), refl)
 
-pub returns-in-err-node : goal.returns-in-err-node
-returns-in-err-node c =
+pub returns-in_err-node : goal.returns-in_err-node
+returns-in_err-node c =
     let bs = c.args.bytes.now in
     let h = c.args.header in
     let i = c.loop-i.i in
-    let p = err_from_is_err_and c.from-residual.result c.from-residual.ensures.1 in
-    let P : ℕ → Type 0 = λ s. nodes_upto bs s h.count ≡ Err (table_refusal c.in-err-node.field-0.0) in
+    let p = err_from_is_err_and c.from_residual.result c.from_residual.ensures.1 in
+    let P : ℕ → Type 0 = λ s. nodes_upto bs s h.count ≡ Err (table_refusal c.in_err-node.field-0.0) in
     rw (p.1, p.2)
     (subst P c.new-nodes.ensures.signals
-    (upto_unread bs c.new-nodes.result.signals i h.count _ _ c.loop-i.invariant.0 (c.in-err-node.ensures ∙ ap (node_from i) c.node_bytes.ensures) (omega arith)))
+    (upto_unread bs c.new-nodes.result.signals i h.count _ _ c.loop-i.invariant.0 (c.in_err-node.ensures ∙ ap (node_from i) c.node_bytes.ensures) (omega arith)))
 
-pub returns-in-err-push : goal.returns-in-err-push
-returns-in-err-push c =
+pub returns-in_err-push : goal.returns-in_err-push
+returns-in_err-push c =
     let bs = c.args.bytes.now in
     let h = c.args.header in
     let i = c.loop-i.i in
     let ns = node_list c.loop-i.nodes in
-    let n = c.in-ok-node.node in
-    let r = table_refusal c.in-err-push.field-0.0 in
-    let p = err_from_is_err_and c.from-residual-in-err-push.result c.from-residual-in-err-push.ensures.1 in
+    let n = c.in_ok-node.node in
+    let r = table_refusal c.in_err-push.field-0.0 in
+    let p = err_from_is_err_and c.from_residual-in_err-push.result c.from_residual-in_err-push.ensures.1 in
     let P : ℕ → Type 0 = λ s. nodes_upto bs s h.count ≡ Err r in
     let Q : ℕ → Type 0 = λ s. pushed s ns n ≡ Err r in
     rw (p.1, p.2)
     (subst P c.new-nodes.ensures.signals
-    (upto_refused bs c.new-nodes.result.signals i h.count ns n r c.loop-i.invariant.0 (c.in-ok-node.ensures ∙ ap (node_from i) c.node_bytes.ensures)
-    (subst Q c.loop-i.invariant.1 c.in-err-push.ensures.0) (omega arith)))
+    (upto_refused bs c.new-nodes.result.signals i h.count ns n r c.loop-i.invariant.0 (c.in_ok-node.ensures ∙ ap (node_from i) c.node_bytes.ensures)
+    (subst Q c.loop-i.invariant.1 c.in_err-push.ensures.0) (omega arith)))
 
 pub loop-i-preserved : goal.loop-i-preserved
 loop-i-preserved c =
     let bs = c.args.bytes.now in
     let i = c.loop-i.i in
     let ns = node_list c.loop-i.nodes in
-    let n = c.in-ok-node.node in
-    let e = c.in-ok-push.ensures in
+    let n = c.in_ok-node.node in
+    let e = c.in_ok-push.ensures in
     let Q : ℕ → Type 0 = λ s. pushed s ns n ≡ Ok (node_list c.push.new.self) in (
-      upto_pushed bs c.new-nodes.result.signals i ns n c.loop-i.invariant.0 (c.in-ok-node.ensures ∙ ap (node_from i) c.node_bytes.ensures)
+      upto_pushed bs c.new-nodes.result.signals i ns n c.loop-i.invariant.0 (c.in_ok-node.ensures ∙ ap (node_from i) c.node_bytes.ensures)
           ∙ subst Q c.loop-i.invariant.1 e.0,
       e.1 ∙ c.loop-i.invariant.1,
     )
