@@ -8,7 +8,7 @@ use Rattle.gates.proofs.operations.GatesLattice.or.Goals as goal
 
 pub returns : goal.returns
 returns c =
-    let nor = c.in-ok-nor.ensures in
+    let nor = c.in_ok-nor.ensures in
     record {
       answer = record {
         allowed = ap (λ g. allows (gate_rules c.args.self.now g)) (sym c.neither.ensures.value) ∙ nor.answer.allowed;
