@@ -4,7 +4,7 @@
     python3 tools/plant.py [CRATE | CRATE/NAME ..]
 
 The changes for crates/CRATE/specs/NAME.antt stand in tools/planted/CRATE/NAME.txt, one a line: what stands there once, ' ==> ',
-what is put in its place. Each is tried in a copy of the crates, by `rt dev`, some four to ten seconds each. A line is printed for each:
+what is put in its place. Each is tried in a copy of the crates, by `rt check`, some five to twenty seconds each. A line is printed for each:
 'examples' where a worked example is refused, 'proofs' where only the proof of a law or of a function is, 'NOT NOTICED' otherwise.
 """
 import re
@@ -18,7 +18,7 @@ HERE = Path(__file__).parent
 
 
 def check(top, crate):
-    done = subprocess.run(["rt", "dev", crate], cwd=top, capture_output=True, text=True)
+    done = subprocess.run(["rt", "check"], cwd=top / "crates" / crate, capture_output=True, text=True)
     return done.stdout + done.stderr
 
 
@@ -42,7 +42,7 @@ def main():
     with tempfile.TemporaryDirectory() as folder:
         top = Path(folder)
         shutil.copy(HERE.parent / "crates.txt", top)
-        shutil.copytree(HERE.parent / "crates", top / "crates")
+        shutil.copytree(HERE.parent / "crates", top / "crates", ignore=shutil.ignore_patterns("out"))
         for crate, name, changes in planted(sys.argv[1:]):
             spec = top / f"crates/{crate}/specs/{name}.antt"
             text = spec.read_text()

@@ -241,7 +241,7 @@ def boolean_term(x):
     if kind == "constant":
         return f"Boolean.constant {'true' if x[1] else 'false'}"
     if kind == "signal":
-        return "ABC"[x[1]]
+        return f"bool_{'abc'[x[1]]}"
     if kind == "past":
         return f"Boolean.past {x[1]} {bracket(boolean_term(x[2]))}"
     name = {"!": "not", "&&": "and", "||": "or"}[kind]
@@ -258,7 +258,7 @@ def sequence_term(x):
         return "abc"[x[1]]
     if CLASS[kind] == BOOLEAN:
         return f"Sequence.boolean {bracket(boolean_term(x))}"
-    name = {"##": "delay", "##0": "fusion", "[*]": "repeat", "seq or": "or", "seq and": "and", "first_match": "first-match"}.get(kind, kind)
+    name = {"##": "delay", "##0": "fusion", "[*]": "repeat", "seq or": "or", "seq and": "and"}.get(kind, kind)
     if kind == "throughout":
         parts = [bracket(boolean_term(x[1])), bracket(sequence_term(x[2]))]
     else:
@@ -272,7 +272,7 @@ def property_term(x):
         return f"bool {bracket(boolean_term(x))}"
     if CLASS[kind] == SEQUENCE:
         return f"seq {bracket(sequence_term(x))}"
-    name = {"|->": "implies", "|=>": "implies-next", "s_eventually": "eventually"}.get(kind, kind)
+    name = {"|->": "implies", "|=>": "implies_next", "s_eventually": "eventually"}.get(kind, kind)
     if kind in ("|->", "|=>"):
         parts = [bracket(sequence_term(x[1])), bracket(property_term(x[2]))]
     else:

@@ -7,6 +7,7 @@
 // Without a file it reads table.bin in the folder where it is run.
 mod form;
 
+use anyhow::anyhow;
 use fault::{Fault, TableFault};
 use form::{Extent, Form};
 use nodes::decode::decode;
@@ -151,13 +152,7 @@ fn inspect(rt: &HostRuntime, name: &str) -> io::Result<()> {
 
 // As `inspect`, with the file's name in the message where it cannot be read.
 fn inspect_file(rt: &HostRuntime, name: &str) -> anyhow::Result<()> {
-    match inspect(rt, name) {
-        Ok(()) => Ok(()),
-        Err(error) => {
-            eprintln!(rt; "inspect: {name}: {error}")?;
-            Err(error.into())
-        }
-    }
+    inspect(rt, name).map_err(|error| anyhow!("inspect: {name}: {error}"))
 }
 
 fn main(rt: HostRuntime) -> anyhow::Result<()> {
