@@ -8,7 +8,7 @@ use Rattle.domain.specs.Examples.{Examples, small}
 -- the small domain, with more values issued and fewer places free
 grown : (i j f g : ℕ) → i ≤ j → f ≤ suc g → g ≤ f → Grown (small i f) (small j g) 1
 grown i j f g l m n = record {
-  ground = refl;
+  frame = refl;
   kept = λ v h. record { issued = lt-ltb v j (omega (arith, ltb-true v i h)); truth = λ ρ _. refl };
   taken = omega arith;
   none_added = omega arith;
@@ -43,7 +43,7 @@ examples = record {
       allowed = refl;
       denotes = record { issued = refl; truth = λ ρ r. sym r };
       grown = record {
-        ground = refl;
+        frame = refl;
         kept = λ v h. record { issued = h; truth = λ ρ _. refl };
         taken = omega arith;
         none_added = omega arith;
@@ -62,7 +62,7 @@ examples = record {
   kept = (
     λ a. false≢true (a.grown.kept 2 refl).issued,
     λ a. false≢true (sym ((a.grown.kept 2 refl).truth false refl)),
-    λ a. omega (arith, ap (λ g. g.count) a.grown.ground),
+    λ a. omega (arith, ap (λ g. g.count) a.grown.frame),
   );
   refused = (
     record { same = refl; due = refl },
@@ -86,7 +86,7 @@ examples = record {
   unchanged = (
     λ a. false≢true (sym (ap (λ m. m.issued 3) a.same)),
     λ a. omega (arith, ap (λ m. m.free) a.same),
-    λ a. omega (arith, ap (λ m. m.ground.count) a.same),
+    λ a. omega (arith, ap (λ m. m.frame.count) a.same),
   );
   ends = (
     λ c h. omega (arith, ltb-true c 7 (and_parts (leb 5 c) (ltb c 7) h).1),

@@ -22,7 +22,7 @@ module _ {V R : Type 0} where
   known_grown [] g k = tt
   known_grown (x ∷ xs) g k = ((g.kept x k.0).issued, known_grown xs g k.1)
 
-  pub at_grown : {m n : Meaning V R} {j : ℕ} (xs : List V) (i : ℕ) (ρ : R) → Grown m n j → Known m xs → n.ground.reading ρ ≡ true → at n xs i ρ ≡ at m xs i ρ
+  pub at_grown : {m n : Meaning V R} {j : ℕ} (xs : List V) (i : ℕ) (ρ : R) → Grown m n j → Known m xs → n.frame.reading ρ ≡ true → at n xs i ρ ≡ at m xs i ρ
   unfolding Known at
   at_grown [] i ρ g k r = refl
   at_grown (x ∷ xs) zero ρ g k r = (g.kept x k.0).truth ρ r
@@ -60,7 +60,7 @@ module _ {V R : Type 0} where
   }
 
   -- one more, by a computation that got its value
-  pub written_more : {m n o : Meaning V R} {xs : List V} {j k : ℕ} {f : R → Bool} {v : V} {F : ℕ → R → Bool} (ys : List V) (first c most : ℕ) → k + j ≤ most → first + c < length ys → Written m n xs ys k first c F → Reached n o j f v → ((ρ : R) → n.ground.reading ρ ≡ true → f ρ ≡ F c ρ) → Written m o xs (set ys (first + c) v) most first (c + 1) F
+  pub written_more : {m n o : Meaning V R} {xs : List V} {j k : ℕ} {f : R → Bool} {v : V} {F : ℕ → R → Bool} (ys : List V) (first c most : ℕ) → k + j ≤ most → first + c < length ys → Written m n xs ys k first c F → Reached n o j f v → ((ρ : R) → n.frame.reading ρ ≡ true → f ρ ≡ F c ρ) → Written m o xs (set ys (first + c) v) most first (c + 1) F
   written_more {o = o} {v = v} {F = F} ys first c most less l w x e = record {
     grown = grown_most most less (grown_then w.grown x.grown);
     known = known_set o ys (first + c) v x.denotes.issued (known_grown ys x.grown w.known);

@@ -36,11 +36,11 @@ module _ {V R : Type 0} where
       }
 
   -- an operation that the rules allow is a computation
-  pub outcome_of : (m n : Meaning V R) (rules : List Rule) (f h : R → Bool) (k : ℕ) (r : Result V DomainFault) → allows rules ≡ true → 1 ≤ k → ((ρ : R) → m.ground.reading ρ ≡ true → f ρ ≡ h ρ) → Answered m n rules f r → Outcome m n k h r
+  pub outcome_of : (m n : Meaning V R) (rules : List Rule) (f h : R → Bool) (k : ℕ) (r : Result V DomainFault) → allows rules ≡ true → 1 ≤ k → ((ρ : R) → m.frame.reading ρ ≡ true → f ρ ≡ h ρ) → Answered m n rules f r → Outcome m n k h r
   outcome_of m n rules f h k (Ok v) a l e t = record { denotes = denotes_as (λ ρ q. e ρ (reading_back t.grown q)) t.denotes; grown = grown_most k l t.grown }
   outcome_of m n rules f h k (Err fault) a l e t = stopped a (omega arith) (grown_same m) t
 
-  pub atom_outcome : (m n : Meaning V R) (signal cycle : ℕ) (h : R → Bool) (k : ℕ) (r : Result V DomainFault) → (leb signal 63 && held m.ground cycle) ≡ true → 1 ≤ k → ((ρ : R) → m.ground.reading ρ ≡ true → m.ground.trace ρ cycle signal ≡ h ρ) → Atom m n signal cycle r → Outcome m n k h r
+  pub atom_outcome : (m n : Meaning V R) (signal cycle : ℕ) (h : R → Bool) (k : ℕ) (r : Result V DomainFault) → (leb signal 63 && held m.frame cycle) ≡ true → 1 ≤ k → ((ρ : R) → m.frame.reading ρ ≡ true → m.frame.trace ρ cycle signal ≡ h ρ) → Atom m n signal cycle r → Outcome m n k h r
   atom_outcome m n signal cycle h k r there l e t = outcome_of m n _ _ h k r (holds_allows there) l e t
 
   pub not_outcome : (m n : Meaning V R) {a : V} {f : R → Bool} (h : R → Bool) (k : ℕ) (r : Result V DomainFault) → Denotes m a f → 1 ≤ k → ((ρ : R) → not (f ρ) ≡ h ρ) → Not m n a r → Outcome m n k h r
@@ -83,13 +83,13 @@ module _ {V R : Type 0} where
   }
 
   -- the same computation in other words
-  pub reached_as : {m n : Meaning V R} {f h : R → Bool} {v : V} {j : ℕ} (k : ℕ) → j ≤ k → ((ρ : R) → m.ground.reading ρ ≡ true → f ρ ≡ h ρ) → Reached m n j f v → Reached m n k h v
+  pub reached_as : {m n : Meaning V R} {f h : R → Bool} {v : V} {j : ℕ} (k : ℕ) → j ≤ k → ((ρ : R) → m.frame.reading ρ ≡ true → f ρ ≡ h ρ) → Reached m n j f v → Reached m n k h v
   reached_as k l e x = record { denotes = denotes_as (λ ρ q. e ρ (reading_back x.grown q)) x.denotes; grown = grown_most k l x.grown }
 
   pub stopped_then : {l m n : Meaning V R} {i j : ℕ} {fault : DomainFault} (k : ℕ) → i + j ≤ k → Grown l m i → Stopped m n j fault → Stopped l n k fault
   stopped_then k less g s = record { refused = s.refused; full = s.full; grown = grown_most k less (grown_then g s.grown) }
 
-  pub outcome_as : (m n : Meaning V R) (f h : R → Bool) (j k : ℕ) (r : Result V DomainFault) → j ≤ k → ((ρ : R) → m.ground.reading ρ ≡ true → f ρ ≡ h ρ) → Outcome m n j f r → Outcome m n k h r
+  pub outcome_as : (m n : Meaning V R) (f h : R → Bool) (j k : ℕ) (r : Result V DomainFault) → j ≤ k → ((ρ : R) → m.frame.reading ρ ≡ true → f ρ ≡ h ρ) → Outcome m n j f r → Outcome m n k h r
   outcome_as m n f h j k (Ok v) l e x = reached_as k l e x
   outcome_as m n f h j k (Err fault) l e x = stopped_then k (omega arith) (grown_same m) x
 

@@ -1,7 +1,7 @@
 -- What the contract of an operation allows and what it excludes, on a small domain.
 use Rattle.std.specs.Prelude.{ℕ, zero, suc, Bool, true, false, Ok, Err, nat_lt}
 use Rattle.fault.specs.declared.DomainFault.TheVariants.{Full, NotIssued, Atom as NotThere}
-use Rattle.domain.specs.Meaning.{Ground, Meaning, EndsBy}
+use Rattle.domain.specs.Meaning.{Frame, Meaning, EndsBy}
 use Rattle.domain.specs.Operations.{Atom, Not, And, Or}
 
 -- value 0 is never true, 1 always, and each further one at the reading `true` alone
@@ -11,27 +11,27 @@ small_truth (suc zero) ρ = true
 small_truth (suc (suc v)) ρ = ρ
 
 -- cycles from 5 on, and two readings: at `true` every signal is high, at `false` none
-abbrev pub small_ground : (count : ℕ) → Ground Bool
-small_ground n = record { first = 5; count = n; reading = λ _. true; trace = λ ρ _ _. ρ }
+abbrev pub small_frame : (count : ℕ) → Frame Bool
+small_frame n = record { first = 5; count = n; reading = λ _. true; trace = λ ρ _ _. ρ }
 
 -- it holds cycles 5 and 6, and has issued so many values
 abbrev pub small : (issued free : ℕ) → Meaning ℕ Bool
-small n free = record { ground = small_ground 2; issued = λ v. nat_lt v n; truth = small_truth; free = free }
+small n free = record { frame = small_frame 2; issued = λ v. nat_lt v n; truth = small_truth; free = free }
 
 -- the same with another cycle, with the reading `true` alone, and with every value turned
 abbrev pub longer : (issued free : ℕ) → Meaning ℕ Bool
-longer n free = record { ground = small_ground 3; issued = λ v. nat_lt v n; truth = small_truth; free = free }
+longer n free = record { frame = small_frame 3; issued = λ v. nat_lt v n; truth = small_truth; free = free }
 
 abbrev pub one_reading : (issued free : ℕ) → Meaning ℕ Bool
 one_reading n free = record {
-  ground = record { first = 5; count = 2; reading = λ ρ. ρ; trace = λ ρ _ _. ρ };
+  frame = record { first = 5; count = 2; reading = λ ρ. ρ; trace = λ ρ _ _. ρ };
   issued = λ v. nat_lt v n;
   truth = small_truth;
   free = free;
 }
 
 abbrev pub constant_truths : (issued free : ℕ) → Meaning ℕ Bool
-constant_truths n free = record { ground = small_ground 2; issued = λ v. nat_lt v n; truth = λ v _. small_truth v true; free = free }
+constant_truths n free = record { frame = small_frame 2; issued = λ v. nat_lt v n; truth = λ v _. small_truth v true; free = free }
 
 pub record Examples : Type 0 where
   -- an accepted operation: one place or none, a new value or one that was there
@@ -93,5 +93,5 @@ pub record Examples : Type 0 where
       × (And (small 2 4) (longer 2 4) 1 2 (Err NotIssued) → ⊥)
   -- the largest cycle
   pub ends :
-      EndsBy 6 (small_ground 2)
-      × (EndsBy 5 (small_ground 2) → ⊥)
+      EndsBy 6 (small_frame 2)
+      × (EndsBy 5 (small_frame 2) → ⊥)

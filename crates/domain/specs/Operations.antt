@@ -39,7 +39,7 @@ Answered m n rules f (Err fault) = Refused m n rules fault
 -- the operations, from the meaning m before to the meaning n after
 module _ {V R : Type 0} (m n : Meaning V R) where
   abbrev pub Atom : (signal cycle : ℕ) → Result V DomainFault → Type 0
-  Atom k c = Answered m n (atom (nat_le k 63 && held m.ground c) ∷ []) (λ ρ. m.ground.trace ρ c k)
+  Atom k c = Answered m n (atom (nat_le k 63 && held m.frame c) ∷ []) (λ ρ. m.frame.trace ρ c k)
 
   abbrev pub Not : V → Result V DomainFault → Type 0
   Not a = Answered m n (operands (m.issued a) ∷ []) (λ ρ. not (m.truth a ρ))

@@ -21,9 +21,9 @@ module _ {V R : Type 0} where
 pub record Written {V R : Type 0} (m n : Meaning V R) (xs ys : List V) (k first count : ℕ) (F : ℕ → R → Bool) : Type 0 where
   pub grown : Grown m n k
   pub known : Known n ys
-  pub before : (i : ℕ) (ρ : R) → i < first → n.ground.reading ρ ≡ true → at n ys i ρ ≡ at m xs i ρ
-  pub after : (i : ℕ) (ρ : R) → first + count ≤ i → n.ground.reading ρ ≡ true → at n ys i ρ ≡ at m xs i ρ
-  pub cells : (i : ℕ) (ρ : R) → i < count → n.ground.reading ρ ≡ true → at n ys (first + i) ρ ≡ F i ρ
+  pub before : (i : ℕ) (ρ : R) → i < first → n.frame.reading ρ ≡ true → at n ys i ρ ≡ at m xs i ρ
+  pub after : (i : ℕ) (ρ : R) → first + count ≤ i → n.frame.reading ρ ≡ true → at n ys i ρ ≡ at m xs i ρ
+  pub cells : (i : ℕ) (ρ : R) → i < count → n.frame.reading ρ ≡ true → at n ys (first + i) ρ ≡ F i ρ
 
 -- a computation that writes a layer of places, or is refused a place
 abbrev pub Layered : {V R : Type 0} → (m n : Meaning V R) → (xs ys : List V) → (k first count : ℕ) → (ℕ → R → Bool) → Result (Unit {0}) DomainFault → Type 0

@@ -40,12 +40,12 @@ pub trait Lattice {
 
     // The first cycle held.
     fn first_cycle(&self) -> u64
-        ensures { result ≡ (meaning self.now).ground.first };
+        ensures { result ≡ (meaning self.now).frame.first };
 
     // How many cycles are held, from the first on.
     fn cycle_count(&self) -> u64
-        ensures value { result ≡ (meaning self.now).ground.count }
-        ensures ends { EndsBy last (meaning self.now).ground };
+        ensures value { result ≡ (meaning self.now).frame.count }
+        ensures ends { EndsBy last (meaning self.now).frame };
 
     // Whether a value is issued.
     fn issued(&self, a: Self::Value) -> bool

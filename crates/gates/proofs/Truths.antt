@@ -117,7 +117,7 @@ module _ (gs : List Gate) (g : Gate) (places : ℕ) (room : length gs < places) 
           ∙ get_or_push (truths τ gs) (gate_truth τ (truths τ gs) g) false (length gs) (omega (arith, length_truths τ [] gs));
     };
     grown = record {
-      ground = refl;
+      frame = refl;
       kept = kept;
       taken = omega (arith, long);
       none_added = omega (arith, long);

@@ -1,7 +1,7 @@
 -- What a list of gates means: an and-inverter graph over the signals of a trace.
 use Rattle.std.specs.Prelude.{◌≡◌, ℕ, suc, ◌-◌, ◌^◌, ◌<◌, Bool, true, false, cond, not, ◌&&◌, List, [], ◌∷◌, ◌++◌, length, nat_le, nat_lt, slice_index_or}
 use Rattle.sva.specs.Trace.{Trace}
-use Rattle.domain.specs.Meaning.{Ground, Meaning}
+use Rattle.domain.specs.Meaning.{Frame, Meaning}
 use Rattle.gates.specs.declared.gate.Variable.{Variable}
 use Rattle.gates.specs.declared.gate.Variable.TheVariants.{False, Atom, Gate as Output}
 use Rattle.gates.specs.declared.gate.Literal.{Literal}
@@ -46,12 +46,12 @@ abbrev pub truths : Trace → List Gate → List Bool
 truths τ gs = truths_from τ [] gs
 
 -- every trace is a reading, over cycles 0 to 2^41 - 1
-abbrev pub gates_ground : Ground Trace
-gates_ground = record { first = 0; count = 2 ^ 41; reading = λ _. true; trace = λ τ. τ }
+abbrev pub gates_frame : Frame Trace
+gates_frame = record { first = 0; count = 2 ^ 41; reading = λ _. true; trace = λ τ. τ }
 
 abbrev pub gates_meaning : List Gate → (places : ℕ) → Meaning Literal Trace
 gates_meaning gs places = record {
-  ground = gates_ground;
+  frame = gates_frame;
   issued = λ l. known (length gs) l.variable;
   truth = λ l τ. literal_truth τ (truths τ gs) l;
   free = places - length gs;

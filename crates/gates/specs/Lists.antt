@@ -21,9 +21,9 @@ pub record Fresh (wanted : ℕ) (d : Gates) : Type 0 where
   pub gates : gate_list d ≡ []
   pub places : d.places ≡ min wanted (2 ^ 32)
   pub free : (meaning_of d).free ≡ min wanted (2 ^ 32)
-  pub reads : (τ : Trace) → (meaning_of d).ground.reading τ ≡ true
-  pub trace : (τ : Trace) → (meaning_of d).ground.trace τ ≡ τ
-  pub holds : (c : ℕ) → held (meaning_of d).ground c ≡ nat_lt c (2 ^ 41)
+  pub reads : (τ : Trace) → (meaning_of d).frame.reading τ ≡ true
+  pub trace : (τ : Trace) → (meaning_of d).frame.trace τ ≡ τ
+  pub holds : (c : ℕ) → held (meaning_of d).frame c ≡ nat_lt c (2 ^ 41)
 
 abbrev pub gate : (left right : Literal) → Gate
 gate a b = record { left = a; right = b }
