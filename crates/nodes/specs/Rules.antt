@@ -1,5 +1,5 @@
 -- Which nodes may follow which.
-use Rattle.std.specs.Prelude.{◌≡◌, ℕ, ◌<◌, min, max, Bool, true, false, not, ◌&&◌, ◌||◌, ltb, List, [], ◌∷◌, length, take, Some, None, Option, ◌==◌, nat_le, nat_lt, slice_index_or}
+use Rattle.std.specs.Prelude.{◌≡◌, ℕ, ◌<◌, min, max, Bool, true, false, not, ◌&&◌, ◌||◌, List, [], ◌∷◌, length, take, Some, None, Option, ◌==◌, nat_le, nat_lt, slice_index_or}
 use Rattle.fault.specs.Refusals.{refuse}
 use Rattle.fault.specs.First.{Rule, rule, allows}
 use Rattle.fault.specs.declared.Layer.TheVariants.{Table}
@@ -92,7 +92,7 @@ sequence_for_property Class.Property role = false
 
 -- every operand is the number of a node before node i
 abbrev pub earlier : ℕ → Operands → Bool
-earlier i os = every (λ o. ltb o.node i) os
+earlier i os = every (λ o. nat_lt o.node i) os
 
 -- every operand is of a class that can stand where it does; `at` is what is known of each node
 abbrev pub classed : (ℕ → Facts) → Operands → Bool
