@@ -4,7 +4,7 @@
     python3 tools/plant.py [CRATE | CRATE/NAME ..]
 
 The changes for crates/CRATE/specs/NAME.antt stand in tools/planted/CRATE/NAME.txt, one a line: what stands there once, ' ==> ',
-what is put in its place. Each is tried in a copy of the crates, by `rt check`, some five to twenty seconds each. A line is printed for each:
+what is put in its place, and behind ' ;; ' a further such pair. Each is tried in a copy of the crates, by `rt check`, some five to twenty seconds each. A line is printed for each:
 'examples' where a worked example is refused, 'proofs' where only the proof of a law or of a function is, 'NOT NOTICED' otherwise.
 """
 import re
@@ -47,14 +47,19 @@ def main():
             spec = top / f"crates/{crate}/specs/{name}.antt"
             text = spec.read_text()
             for line in changes:
-                old, new = line.split(" ==> ")
-                if text.count(old) != 1:
+                changed = text
+                for pair in line.split(" ;; "):
+                    old, new = pair.split(" ==> ")
+                    changed = changed.replace(old, new) if changed.count(old) == 1 else None
+                    if changed is None:
+                        break
+                if changed is None:
                     found = "NOT ONCE THERE"
                 else:
-                    spec.write_text(text.replace(old, new))
+                    spec.write_text(changed)
                     found = noticed(check(top, crate))
                 counts[found] = counts.get(found, 0) + 1
-                print(f"{found:14} {crate}/{name}: {old} ==> {new}", flush=True)
+                print(f"{found:14} {crate}/{name}: {line}", flush=True)
             spec.write_text(text)
     print(", ".join(f"{found} {count}" for found, count in sorted(counts.items())))
     sys.exit(0 if set(counts) <= {"examples", "proofs"} else 1)
