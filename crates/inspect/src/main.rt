@@ -7,11 +7,11 @@
 // Without a file it reads table.bin in the folder where it is run.
 mod form;
 
-use anyhow::anyhow;
 use fault::{Fault, TableFault};
 use form::{Extent, Form};
 use nodes::decode::decode;
 use nodes::list::Nodes;
+use std::process::ExitCode;
 use std::{env, fs, io};
 use table::format::{Header, node_bytes};
 use table::span::LAST_START;
@@ -150,22 +150,30 @@ fn inspect(rt: &HostRuntime, name: &str) -> io::Result<()> {
     }
 }
 
-// As `inspect`, with the file's name in the message where it cannot be read.
-fn inspect_file(rt: &HostRuntime, name: &str) -> anyhow::Result<()> {
-    inspect(rt, name).map_err(|error| anyhow!("inspect: {name}: {error}"))
+// Whether a file could be read and shown; if not, standard error says why.
+fn inspect_file(rt: &HostRuntime, name: &str) -> io::Result<bool> {
+    match inspect(rt, name) {
+        Ok(()) => Ok(true),
+        Err(error) => {
+            eprintln!(rt; "inspect: {name}: {error}")?;
+            Ok(false)
+        }
+    }
 }
 
-fn main(rt: HostRuntime) -> anyhow::Result<()> {
+fn main(rt: HostRuntime) -> io::Result<ExitCode> {
     let mut named = false;
     for name in env::args(&rt)?.skip(1) {
         if named {
             println!(rt; "")?;
         }
         named = true;
-        inspect_file(&rt, name.as_str())?;
+        if !inspect_file(&rt, name.as_str())? {
+            return Ok(ExitCode::FAILURE);
+        }
     }
-    if named {
-        return Ok(());
+    if named || inspect_file(&rt, "table.bin")? {
+        return Ok(ExitCode::SUCCESS);
     }
-    inspect_file(&rt, "table.bin")
+    Ok(ExitCode::FAILURE)
 }
