@@ -1,5 +1,5 @@
 -- The number, place and layer of every refusal.
-use Rattle.std.specs.Prelude.{ℕ}
+use Rattle.std.specs.Prelude.{ℕ, List, ◌++◌, codes, decimal}
 use Rattle.fault.specs.declared.Layer.{Layer}
 use Rattle.fault.specs.declared.Layer.TheVariants as In
 use Rattle.fault.specs.declared.Refusal.{Refusal}
@@ -65,3 +65,7 @@ refusal_of (Of.Block f) = block_refusal f
 refusal_of (Of.Unroll f) = unroll_refusal f
 refusal_of (Of.Domain f) = domain_refusal f
 refusal_of (Of.Report f) = report_refusal f
+
+-- the line that is written for a refusal
+abbrev pub refusal_text : Refusal → List ℕ
+refusal_text r = codes "refused " ++ decimal r.number ++ codes " " ++ decimal r.place

@@ -4,75 +4,107 @@
 //
 // A refusal has a number, a place and a layer, and keeps them through every caller. `refusal_of` in
 // specs/Refusals.antt says them for each case; docs/refusals.md has the same list in words.
-ghost use Rattle.std.specs.Prelude.{◌≡◌};
-ghost use Rattle.fault.specs.Refusals.{refusal_of};
+ghost use Rattle.std.specs.Prelude.{◌≡◌, Some};
+ghost use Rattle.fault.specs.Refusals.{refusal_of, refusal_text};
 ghost use Rattle.fault.specs.declared.Fault.TheVariants.{Table as OfTable, Row as OfRow, Block as OfBlock, Unroll as OfUnroll, Domain as OfDomain, Report as OfReport};
 
 use std::fmt;
+use thiserror::Error;
 
 // Why bytes are not a table. A case that lies at a node has that node's number.
-#[derive(Clone, Copy)]
+#[derive(Clone, Copy, PartialEq, Eq, Debug, Error)]
 pub enum TableFault {
+    #[error("the table is not 16 bytes and 8 for each node, or has no node or more than 32")]
     Length,
+    #[error("the header's signal count is not 1 to 64, its row ceiling not 1 to 2^40, or a byte from 2 to 7 is set")]
     Header,
+    #[error("the kind is unknown, or a byte is set that this kind does not use")]
     Form { node: u8 },
+    #[error("an operand is not the number of an earlier node")]
     Operand { node: u8 },
+    #[error("an operand is a sequence or a property where this kind does not take one")]
     Class { node: u8 },
+    #[error("a number is out of its range")]
     Range { node: u8 },
+    #[error("the lengths of the operands leave no match")]
     Lengths { node: u8 },
+    #[error("a sequence that may match no cycle at all stands for a property")]
     Empty { node: u8 },
+    #[error("a match may be longer than 32 cycles, the lookback is above 32, or the horizon above 31")]
     Limit { node: u8 },
 }
 
 // Why a row is not taken.
-#[derive(Clone, Copy)]
+#[derive(Clone, Copy, PartialEq, Eq, Debug, Error)]
 pub enum RowFault {
+    #[error("a row has a signal set that the table does not count")]
     Signal { cycle: u64 },
+    #[error("the scratch is too short")]
     Scratch { wanted: usize },
+    #[error("the rows would pass the table's row ceiling")]
     Ceiling { ceiling: u64 },
 }
 
 // Why a block is not taken, beside what is wrong with one of its rows.
-#[derive(Clone, Copy)]
+#[derive(Clone, Copy, PartialEq, Eq, Debug, Error)]
 pub enum BlockFault {
+    #[error("the block is not 512 bytes long")]
     Size { blocks: u64 },
+    #[error("the block's check word is not that of its bytes")]
     CheckWord { blocks: u64 },
+    #[error("the block's row count, signal count or a byte that has to be zero is wrong")]
     Field { blocks: u64 },
+    #[error("the scratch is too short")]
     Scratch { wanted: usize },
+    #[error("the list for failed starts is too short")]
     FailedList { wanted: usize },
+    #[error("the block's number is not the next one")]
     Number { blocks: u64 },
 }
 
 // Why a start is not unrolled.
-#[derive(Clone, Copy)]
+#[derive(Clone, Copy, PartialEq, Eq, Debug, Error)]
 pub enum UnrollFault {
+    #[error("the scratch is too short")]
     Scratch { wanted: usize },
+    #[error("the start is above 2^40")]
     Start,
+    #[error("the domain does not hold a cycle of the start's span")]
     Cycle { cycle: u64 },
 }
 
 // Why a Boolean domain does not do an operation.
-#[derive(Clone, Copy)]
+#[derive(Clone, Copy, PartialEq, Eq, Debug, Error)]
 pub enum DomainFault {
+    #[error("the domain has no free place")]
     Full,
+    #[error("a value was not issued by the domain")]
     NotIssued,
+    #[error("the atom's signal is above 63, or its cycle is not held")]
     Atom,
 }
 
 // Why a report is not written.
-#[derive(Clone, Copy)]
+#[derive(Clone, Copy, PartialEq, Eq, Debug, Error)]
 pub enum ReportFault {
+    #[error("the buffer for the report is too short")]
     Buffer { wanted: usize },
 }
 
 // A refusal of any layer.
-#[derive(Clone, Copy)]
+#[derive(Clone, Copy, PartialEq, Eq, Debug, Error)]
 pub enum Fault {
+    #[error(transparent)]
     Table(TableFault),
+    #[error(transparent)]
     Row(RowFault),
+    #[error(transparent)]
     Block(BlockFault),
+    #[error(transparent)]
     Unroll(UnrollFault),
+    #[error(transparent)]
     Domain(DomainFault),
+    #[error(transparent)]
     Report(ReportFault),
 }
 
@@ -94,6 +126,15 @@ pub struct Refusal {
     pub place: u64,
 }
 
+// As it is written everywhere: `refused`, the number and the place.
+impl fmt::Display for Refusal {
+    ghost output = { λ r. Some (refusal_text r) };
+
+    fn fmt<W: fmt::Write>(&self, f: &mut fmt::Formatter<W>) -> fmt::Result {
+        write!(f, "refused {} {}", self.number, self.place)
+    }
+}
+
 impl Fault {
     pub fn number(&self) -> u8
         ensures { result ≡ (refusal_of self.now).number }
@@ -102,38 +143,38 @@ impl Fault {
             Fault::Table(fault) => match fault {
                 TableFault::Length => 1,
                 TableFault::Header => 2,
-                TableFault::Form { node: _ } => 3,
-                TableFault::Operand { node: _ } => 4,
-                TableFault::Class { node: _ } => 5,
-                TableFault::Range { node: _ } => 6,
-                TableFault::Lengths { node: _ } => 7,
-                TableFault::Empty { node: _ } => 8,
-                TableFault::Limit { node: _ } => 9,
+                TableFault::Form { .. } => 3,
+                TableFault::Operand { .. } => 4,
+                TableFault::Class { .. } => 5,
+                TableFault::Range { .. } => 6,
+                TableFault::Lengths { .. } => 7,
+                TableFault::Empty { .. } => 8,
+                TableFault::Limit { .. } => 9,
             },
             Fault::Row(fault) => match fault {
-                RowFault::Signal { cycle: _ } => 10,
-                RowFault::Scratch { wanted: _ } => 14,
-                RowFault::Ceiling { ceiling: _ } => 21,
+                RowFault::Signal { .. } => 10,
+                RowFault::Scratch { .. } => 14,
+                RowFault::Ceiling { .. } => 21,
             },
             Fault::Block(fault) => match fault {
-                BlockFault::Size { blocks: _ } => 11,
-                BlockFault::CheckWord { blocks: _ } => 12,
-                BlockFault::Field { blocks: _ } => 13,
-                BlockFault::Scratch { wanted: _ } => 14,
-                BlockFault::FailedList { wanted: _ } => 15,
-                BlockFault::Number { blocks: _ } => 22,
+                BlockFault::Size { .. } => 11,
+                BlockFault::CheckWord { .. } => 12,
+                BlockFault::Field { .. } => 13,
+                BlockFault::Scratch { .. } => 14,
+                BlockFault::FailedList { .. } => 15,
+                BlockFault::Number { .. } => 22,
             },
             Fault::Unroll(fault) => match fault {
-                UnrollFault::Scratch { wanted: _ } => 14,
+                UnrollFault::Scratch { .. } => 14,
                 UnrollFault::Start => 16,
-                UnrollFault::Cycle { cycle: _ } => 23,
+                UnrollFault::Cycle { .. } => 23,
             },
             Fault::Domain(fault) => match fault {
                 DomainFault::Full => 24,
                 DomainFault::NotIssued => 25,
                 DomainFault::Atom => 26,
             },
-            Fault::Report(ReportFault::Buffer { wanted: _ }) => 15,
+            Fault::Report(ReportFault::Buffer { .. }) => 15,
         }
     }
 
@@ -244,69 +285,5 @@ impl From<ReportFault> for Fault {
 
     fn from(fault: ReportFault) -> Fault {
         Fault::Report(fault)
-    }
-}
-
-// What is wrong, in a sentence.
-impl fmt::Display for Fault {
-    fn fmt<W: fmt::Write>(&self, f: &mut fmt::Formatter<W>) -> fmt::Result {
-        f.write_str(sentence(self))
-    }
-}
-
-fn sentence(fault: &Fault) -> &'static str {
-    match *fault {
-        Fault::Table(fault) => match fault {
-            TableFault::Length => {
-                "the table is not 16 bytes and 8 for each node, or has no node or more than 32"
-            }
-            TableFault::Header => {
-                "the header's signal count is not 1 to 64, its row ceiling not 1 to 2^40, or a byte from 2 to 7 is set"
-            }
-            TableFault::Form { node: _ } => {
-                "the kind is unknown, or a byte is set that this kind does not use"
-            }
-            TableFault::Operand { node: _ } => "an operand is not the number of an earlier node",
-            TableFault::Class { node: _ } => {
-                "an operand is a sequence or a property where this kind does not take one"
-            }
-            TableFault::Range { node: _ } => "a number is out of its range",
-            TableFault::Lengths { node: _ } => "the lengths of the operands leave no match",
-            TableFault::Empty { node: _ } => {
-                "a sequence that may match no cycle at all stands for a property"
-            }
-            TableFault::Limit { node: _ } => {
-                "a match may be longer than 32 cycles, the lookback is above 32, or the horizon above 31"
-            }
-        },
-        Fault::Row(fault) => match fault {
-            RowFault::Signal { cycle: _ } => "a row has a signal set that the table does not count",
-            RowFault::Scratch { wanted: _ } => "the scratch is too short",
-            RowFault::Ceiling { ceiling: _ } => "the rows would pass the table's row ceiling",
-        },
-        Fault::Block(fault) => match fault {
-            BlockFault::Size { blocks: _ } => "the block is not 512 bytes long",
-            BlockFault::CheckWord { blocks: _ } =>
-                "the block's check word is not that of its bytes",
-            BlockFault::Field { blocks: _ } => {
-                "the block's row count, signal count or a byte that has to be zero is wrong"
-            }
-            BlockFault::Scratch { wanted: _ } => "the scratch is too short",
-            BlockFault::FailedList { wanted: _ } => "the list for failed starts is too short",
-            BlockFault::Number { blocks: _ } => "the block's number is not the next one",
-        },
-        Fault::Unroll(fault) => match fault {
-            UnrollFault::Scratch { wanted: _ } => "the scratch is too short",
-            UnrollFault::Start => "the start is above 2^40",
-            UnrollFault::Cycle { cycle: _ } =>
-                "the domain does not hold a cycle of the start's span",
-        },
-        Fault::Domain(fault) => match fault {
-            DomainFault::Full => "the domain has no free place",
-            DomainFault::NotIssued => "a value was not issued by the domain",
-            DomainFault::Atom => "the atom's signal is above 63, or its cycle is not held",
-        },
-        Fault::Report(ReportFault::Buffer { wanted: _ }) =>
-            "the buffer for the report is too short",
     }
 }

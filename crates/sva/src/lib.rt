@@ -12,19 +12,30 @@ ghost use Rattle.sva.specs.Span.{widest_span, scratch_length};
 
 use crate::verdict::Verdict;
 
-// How many cycles the span of a late start has.
-pub fn widest_span(horizon: u16, lookback: u16) -> u32
-    ensures { result ≡ widest_span horizon lookback }
-{
-    lookback as u32 + 1 + horizon as u32
+// How far a property looks from a start.
+#[derive(Clone, Copy, PartialEq, Eq, Debug)]
+pub struct Reach {
+    // The last cycle that it needs, counted from the start.
+    pub horizon: u16,
+    // The most cycles before the start that it looks back.
+    pub lookback: u16,
 }
 
-// How many values of scratch an unrolling takes.
-pub fn scratch_length(nodes: u8, horizon: u16, lookback: u16) -> usize
-    ensures { result ≡ scratch_length nodes horizon lookback }
-{
-    let boundaries = horizon as usize + 2;
-    (nodes as usize + 2) * (boundaries * boundaries + lookback as usize)
+impl Reach {
+    // How many cycles the span of a late start has.
+    pub fn widest_span(self) -> u32
+        ensures { result ≡ widest_span self.horizon self.lookback }
+    {
+        self.lookback as u32 + 1 + self.horizon as u32
+    }
+
+    // How many values of scratch an unrolling takes.
+    pub fn scratch_length(self, nodes: u8) -> usize
+        ensures { result ≡ scratch_length nodes self.horizon self.lookback }
+    {
+        let boundaries = self.horizon as usize + 2;
+        (nodes as usize + 2) * (boundaries * boundaries + self.lookback as usize)
+    }
 }
 
 impl Verdict {

@@ -1,5 +1,5 @@
 // What is said of a start once it is decided.
-#[derive(Clone, Copy)]
+#[derive(Clone, Copy, PartialEq, Eq, Debug)]
 pub enum Verdict {
     // The property does not hold at the start.
     Failed,
