@@ -14,15 +14,12 @@ use nodes::list::Nodes;
 use std::process::ExitCode;
 use std::{env, fs, io};
 use table::format::{Header, node_bytes};
-use table::span::LAST_START;
+use table::span::{LAST_START, Span};
 use table::table::Table;
 
 // One line for a node that was taken.
 fn show_node(rt: &HostRuntime, nodes: &Nodes, i: u8) -> io::Result<()> {
-    let Some(node) = nodes.node(i) else {
-        return Ok(());
-    };
-    let Some(facts) = nodes.facts(i) else {
+    let (Some(node), Some(facts)) = (nodes.node(i), nodes.facts(i)) else {
         return Ok(());
     };
     let heap = rt.alloc();
@@ -52,9 +49,11 @@ fn show_steps(rt: &HostRuntime, bytes: &[u8]) -> io::Result<()> {
     let Ok(header) = Header::read(bytes) else {
         return Ok(());
     };
-    let count = header.count;
-    let signals = header.signals;
-    let ceiling = header.ceiling;
+    let Header {
+        count,
+        signals,
+        ceiling,
+    } = header;
     println!(rt; "header: nodes {count}, signals {signals}, row ceiling {ceiling}")?;
     show_nodes(rt, bytes, header)
 }
@@ -62,15 +61,10 @@ fn show_steps(rt: &HostRuntime, bytes: &[u8]) -> io::Result<()> {
 // The cycles that the verdict of a start depends on.
 fn show_span(rt: &HostRuntime, table: &Table, start: u64) -> io::Result<()> {
     match table.span(start) {
-        Ok(span) => {
-            let first = span.first;
-            let last = span.last;
+        Ok(Span { first, last }) => {
             println!(rt; "  span of start {start}: cycles {first} to {last}")
         }
-        Err(fault) => {
-            let refused = Fault::from(fault);
-            println!(rt; "  span of start {start}: {refused}")
-        }
+        Err(fault) => println!(rt; "  span of start {start}: {fault}"),
     }
 }
 
@@ -131,10 +125,7 @@ fn show_place(rt: &HostRuntime, bytes: &[u8], fault: TableFault) -> io::Result<(
 }
 
 fn show_refused(rt: &HostRuntime, bytes: &[u8], fault: TableFault) -> io::Result<()> {
-    let refused = Fault::from(fault);
-    let number = refused.number();
-    let place = refused.place();
-    println!(rt; "refused {number} {place}: {refused}")?;
+    println!(rt; "{}: {fault}", Fault::from(fault).refusal())?;
     show_place(rt, bytes, fault)
 }
 

@@ -1,18 +1,17 @@
 -- What holds of a list of nodes, and of the list with one more that is allowed.
-use Rattle.std.proofs.Common.{◌≡◌, ℕ, zero, suc, ◌+◌, ◌<◌, ◌≤◌, max, true, List, [], ◌∷◌, ◌++◌, map, length, get_or, take, Result, sym, refl, ap, ◌∙◌, subst, inl, inr, arith, length-append, take_all, take-suc, take_at}
+use Rattle.std.proofs.Common.{◌≡◌, ℕ, zero, suc, ◌+◌, ◌<◌, ◌≤◌, max, true, List, [], ◌∷◌, ◌++◌, map, length, get_or, take, sym, refl, ap, ◌∙◌, subst, inl, inr, arith, length-append, take_all, take-suc, take_at}
 use mathlib.Core.Path.{fun_ext}
 use lib.ListN.{length-map, get_or-append, get_or-map}
 use lib.Seq.{get_or_at, take-append-le}
 use Rattle.std.proofs.lemmas.List.{map-append}
 use Rattle.std.proofs.lemmas.Bool.{cases_lt}
-use Rattle.fault.specs.First.{first, allows, unless}
-use Rattle.fault.specs.declared.Refusal.{Refusal}
+use Rattle.fault.specs.First.{allows}
 use Rattle.nodes.specs.declared.node.Node.{Node}
 use Rattle.nodes.specs.declared.node.Facts.{Facts}
 use Rattle.nodes.specs.Trees.{Tree, build, trees_from, trees, tree_of, facts_of, all_facts, largest_lookback}
-use Rattle.nodes.specs.Rules.{nothing, node_rules, rules_after, Kept}
+use Rattle.nodes.specs.Rules.{nothing, rules_after, Kept}
 use Rattle.nodes.specs.Steps.{known, facts_step, Short, AllShort}
-use Rattle.nodes.proofs.Measured.{step_build, admitted_same}
+use Rattle.nodes.proofs.Measured.{step_build}
 use Rattle.nodes.proofs.Limits.{Allowed, allowed, step_short}
 use Rattle.nodes.proofs.Forest.{trees_from_snoc, length_trees}
 
@@ -89,17 +88,6 @@ pub kept_short : (s : ℕ) (ns : List Node) → Kept s ns → AllShort (all_fact
 kept_short s ns kept =
     let S : List Node → Type 0 = λ x. AllShort (all_facts x) in
     subst S (take_all (length ns) ns (omega arith)) (first_short s ns kept (length ns) (omega arith))
-
--- what is answered for a node from the facts is answered from the trees
-pub admitted : (s : ℕ) (ns : List Node) (n : Node) (fs : List Facts) → fs ≡ all_facts ns
-    → unless (first (node_rules s (known fs) (facts_step (known fs) n) (length fs) n)) (facts_step (known fs) n)
-    ≡ unless (first (rules_after s ns n)) (facts_of (build (tree_of ns) n))
-admitted s ns n fs e =
-    let A : (ℕ → Facts) → ℕ → Result Facts Refusal = λ t i. unless (first (node_rules s t (facts_step t n) i n)) (facts_step t n) in
-    ap (λ (x : List Facts). A (known x) (length x)) e
-    ∙ ap (λ (t : ℕ → Facts). A t (length (all_facts ns))) (known_all ns)
-    ∙ ap (λ (i : ℕ). A (λ a. facts_of (tree_of ns a)) i) (length_all ns)
-    ∙ admitted_same (tree_of ns) s (length ns) n
 
 pub largest_snoc : (fs : List Facts) (f : Facts) → largest_lookback (fs ++ f ∷ []) ≡ max (largest_lookback fs) f.lookback
 largest_snoc [] f = omega arith

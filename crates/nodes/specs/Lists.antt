@@ -1,5 +1,5 @@
 -- What the calls on a list of nodes do.
-use Rattle.std.specs.Prelude.{◌≡◌, ℕ, ◌<◌, cond, List, [], ◌∷◌, ◌++◌, length, take, Some, None, Ok, Err, Option, Result, nat_le, nat_lt, slice_index_or}
+use Rattle.std.specs.Prelude.{◌≡◌, ℕ, ◌<◌, cond, List, [], ◌∷◌, ◌++◌, length, Some, None, Ok, Err, Option, Result, nat_le, nat_lt, slice_index_or}
 use Rattle.fault.specs.Refusals.{refuse, table_refusal}
 use Rattle.fault.specs.First.{Rule, rule, first, unless}
 use Rattle.fault.specs.declared.Layer.TheVariants.{Table}
@@ -8,12 +8,17 @@ use Rattle.fault.specs.declared.TableFault.{TableFault}
 use Rattle.nodes.specs.declared.node.Node.{Node}
 use Rattle.nodes.specs.declared.node.Facts.{Facts}
 use Rattle.nodes.specs.declared.list.Nodes.{Nodes}
+use Rattle.nodes.specs.Entries.{nodes_in}
 use Rattle.nodes.specs.Rules.{nothing, rules_after}
 use Rattle.nodes.specs.Trees.{tree_of, build, facts_of}
 
 -- the nodes that a list holds
 abbrev pub node_list : Nodes → List Node
-node_list t = take t.count t.nodes
+node_list t = nodes_in t.count t.entries
+
+-- what is known of node a; of a node that is not there, nothing
+abbrev pub known_of : Nodes → ℕ → Facts
+known_of t a = facts_of (tree_of (node_list t) a)
 
 -- a list has room for 32 nodes, and each keeps the rules after those before it
 abbrev pub push_rules : (signals : ℕ) → List Node → Node → List Rule
@@ -29,8 +34,8 @@ Pushes old new n (Ok _) = (pushed old.signals (node_list old) n ≡ Ok (node_lis
 Pushes old new n (Err f) = (pushed old.signals (node_list old) n ≡ Err (table_refusal f)) × (new ≡ old)
 
 -- node i, if there is one
-abbrev pub node_at : Nodes → ℕ → Option Node
-node_at t i = cond (nat_lt i t.count) (Some (slice_index_or t.nodes i nothing)) None
+abbrev pub node_at : List Node → ℕ → Option Node
+node_at ns i = cond (nat_lt i (length ns)) (Some (slice_index_or ns i nothing)) None
 
 -- what is known of node i, if there is one
 abbrev pub facts_at : List Node → ℕ → Option Facts

@@ -2,27 +2,23 @@
 ghost use Rattle.std.specs.Prelude.{◌≡◌, []};
 ghost use Rattle.nodes.specs.Lists.{node_list, Pushes};
 
-use crate::list::Nodes;
-use crate::node::{BooleanNode, Class, Facts, Node};
-use crate::rules::admit;
+use crate::list::{Entry, Nodes};
+use crate::node::{BooleanNode, Node, UNKNOWN};
 use fault::TableFault;
 
 impl Nodes {
     // No node yet; a node's signal has to be below `signals`.
+    #[tactic(auto, unfolding(crate::specs::Trees::trees_from))]
     pub fn new(signals: u8) -> Nodes
         ensures nodes { node_list result ≡ [] }
         ensures signals { result.signals ≡ signals }
     {
-        let unknown = Facts {
-            class: Class::Boolean,
-            lo: 0,
-            hi: 0,
-            horizon: 0,
-            lookback: 0,
+        let unused = Entry {
+            node: Node::Boolean(BooleanNode::Constant { value: false }),
+            facts: UNKNOWN,
         };
         Nodes {
-            nodes: [Node::Boolean(BooleanNode::Constant { value: false }); 32],
-            facts: [unknown; 32],
+            entries: [unused; 32],
             count: 0,
             signals,
             lookback: 0,
@@ -33,15 +29,13 @@ impl Nodes {
     pub fn push(&mut self, node: Node) -> Result<(), TableFault>
         ensures { Pushes self.old self.new node result }
     {
-        let count = self.count as usize;
-        if count >= 32 {
+        if self.count >= 32 {
             return Err(TableFault::Length);
         }
-        let known = admit(node, self.signals, &self.facts[0..count])?;
-        self.nodes[count] = node;
-        self.facts[count] = known;
+        let facts = self.admit(node)?;
+        self.entries[self.count as usize] = Entry { node, facts };
         self.count += 1;
-        self.lookback = self.lookback.max(known.lookback);
+        self.lookback = self.lookback.max(facts.lookback);
         Ok(())
     }
 }

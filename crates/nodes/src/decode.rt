@@ -2,7 +2,7 @@
 ghost use Rattle.std.specs.Prelude.{◌≡◌};
 ghost use Rattle.fault.specs.First.{told};
 ghost use Rattle.fault.specs.Refusals.{table_refusal};
-ghost use Rattle.nodes.specs.Format.{node_from, spelled, boolean_from, sequence_from, property_from, leaf as is_leaf, unary as is_unary, binary as is_binary, counted as is_counted, ranged as is_ranged};
+ghost use Rattle.nodes.specs.Format.{node_from, spelled, boolean_from, sequence_from, property_from};
 
 use crate::node::{BooleanNode, Node, PropertyNode, SequenceNode};
 use fault::TableFault;
@@ -17,107 +17,71 @@ pub(crate) struct Fields {
     pub(crate) n: u8,
 }
 
-// Whether the fields are zero that a node does not use: one of no operand and one number, of one
-// operand, of two, of one and a number, of one and a range.
+// What fields spell. A field that a kind does not use is zero. The number of a kind stands here alone,
+// beside the node that it spells: an enum of kinds would list the nodes' names once more.
 impl Fields {
-    fn leaf(self) -> bool
-        ensures { result ≡ is_leaf self }
+    fn boolean(self, node: u8) -> Result<Node, TableFault>
+        ensures { told table_refusal result ≡ boolean_from node self }
     {
-        self.a == 0 && self.b == 0 && self.n == 0
+        let Fields { kind, a, b, m, n } = self;
+        match (kind, a, b, m, n) {
+            (1, 0, 0, m, 0) if m > 1 => Err(TableFault::Range { node }),
+            (1, 0, 0, m, 0) => Ok(Node::Boolean(BooleanNode::Constant { value: m == 1 })),
+            (2, 0, 0, m, 0) => Ok(Node::Boolean(BooleanNode::Signal { m })),
+            (3, a, 0, 0, 0) => Ok(Node::Boolean(BooleanNode::Not { a })),
+            (4, a, b, 0, 0) => Ok(Node::Boolean(BooleanNode::And { a, b })),
+            (5, a, b, 0, 0) => Ok(Node::Boolean(BooleanNode::Or { a, b })),
+            (6, a, 0, m, 0) => Ok(Node::Boolean(BooleanNode::Past { a, m })),
+            _ => Err(TableFault::Form { node }),
+        }
     }
 
-    fn unary(self) -> bool
-        ensures { result ≡ is_unary self }
+    fn sequence(self, node: u8) -> Result<Node, TableFault>
+        ensures { told table_refusal result ≡ sequence_from node self }
     {
-        self.b == 0 && self.m == 0 && self.n == 0
+        let Fields { kind, a, b, m, n } = self;
+        match (kind, a, b, m, n) {
+            (16, a, b, m, n) => Ok(Node::Sequence(SequenceNode::Delay { a, b, m, n })),
+            (17, a, b, 0, 0) => Ok(Node::Sequence(SequenceNode::Fusion { a, b })),
+            (18, a, 0, m, n) => Ok(Node::Sequence(SequenceNode::Repeat { a, m, n })),
+            (19, a, b, 0, 0) => Ok(Node::Sequence(SequenceNode::Or { a, b })),
+            (20, a, b, 0, 0) => Ok(Node::Sequence(SequenceNode::Intersect { a, b })),
+            (21, a, b, 0, 0) => Ok(Node::Sequence(SequenceNode::And { a, b })),
+            (22, a, b, 0, 0) => Ok(Node::Sequence(SequenceNode::Throughout { a, b })),
+            (23, a, b, 0, 0) => Ok(Node::Sequence(SequenceNode::Within { a, b })),
+            (24, a, 0, 0, 0) => Ok(Node::Sequence(SequenceNode::FirstMatch { a })),
+            _ => Err(TableFault::Form { node }),
+        }
     }
 
-    fn binary(self) -> bool
-        ensures { result ≡ is_binary self }
+    fn property(self, node: u8) -> Result<Node, TableFault>
+        ensures { told table_refusal result ≡ property_from node self }
     {
-        self.m == 0 && self.n == 0
+        let Fields { kind, a, b, m, n } = self;
+        match (kind, a, b, m, n) {
+            (32, a, 0, 0, 0) => Ok(Node::Property(PropertyNode::Not { a })),
+            (33, a, b, 0, 0) => Ok(Node::Property(PropertyNode::Or { a, b })),
+            (34, a, b, 0, 0) => Ok(Node::Property(PropertyNode::And { a, b })),
+            (35, a, b, 0, 0) => Ok(Node::Property(PropertyNode::Implies { a, b })),
+            (36, a, b, 0, 0) => Ok(Node::Property(PropertyNode::ImpliesNext { a, b })),
+            (38, a, 0, m, 0) => Ok(Node::Property(PropertyNode::Nexttime { a, m })),
+            (39, a, 0, m, n) => Ok(Node::Property(PropertyNode::Always { a, m, n })),
+            (40, a, 0, m, n) => Ok(Node::Property(PropertyNode::Eventually { a, m, n })),
+            _ => Err(TableFault::Form { node }),
+        }
     }
 
-    fn counted(self) -> bool
-        ensures { result ≡ is_counted self }
+    // The node that the fields spell: kinds below 16 are Booleans, below 32 sequences.
+    fn spell(self, node: u8) -> Result<Node, TableFault>
+        ensures { told table_refusal result ≡ spelled node self }
     {
-        self.b == 0 && self.n == 0
-    }
-
-    fn ranged(self) -> bool
-        ensures { result ≡ is_ranged self }
-    {
-        self.b == 0
-    }
-}
-
-fn boolean(f: Fields, node: u8) -> Result<Node, TableFault>
-    ensures { told table_refusal result ≡ boolean_from node f }
-{
-    let Fields {
-        kind,
-        a,
-        b,
-        m,
-        n: _,
-    } = f;
-    match kind {
-        1 if f.leaf() && m > 1 => Err(TableFault::Range { node }),
-        1 if f.leaf() => Ok(Node::Boolean(BooleanNode::Constant { value: m == 1 })),
-        2 if f.leaf() => Ok(Node::Boolean(BooleanNode::Signal { m })),
-        3 if f.unary() => Ok(Node::Boolean(BooleanNode::Not { a })),
-        4 if f.binary() => Ok(Node::Boolean(BooleanNode::And { a, b })),
-        5 if f.binary() => Ok(Node::Boolean(BooleanNode::Or { a, b })),
-        6 if f.counted() => Ok(Node::Boolean(BooleanNode::Past { a, m })),
-        _ => Err(TableFault::Form { node }),
-    }
-}
-
-fn sequence(f: Fields, node: u8) -> Result<Node, TableFault>
-    ensures { told table_refusal result ≡ sequence_from node f }
-{
-    let Fields { kind, a, b, m, n } = f;
-    match kind {
-        16 => Ok(Node::Sequence(SequenceNode::Delay { a, b, m, n })),
-        17 if f.binary() => Ok(Node::Sequence(SequenceNode::Fusion { a, b })),
-        18 if f.ranged() => Ok(Node::Sequence(SequenceNode::Repeat { a, m, n })),
-        19 if f.binary() => Ok(Node::Sequence(SequenceNode::Or { a, b })),
-        20 if f.binary() => Ok(Node::Sequence(SequenceNode::Intersect { a, b })),
-        21 if f.binary() => Ok(Node::Sequence(SequenceNode::And { a, b })),
-        22 if f.binary() => Ok(Node::Sequence(SequenceNode::Throughout { a, b })),
-        23 if f.binary() => Ok(Node::Sequence(SequenceNode::Within { a, b })),
-        24 if f.unary() => Ok(Node::Sequence(SequenceNode::FirstMatch { a })),
-        _ => Err(TableFault::Form { node }),
-    }
-}
-
-fn property(f: Fields, node: u8) -> Result<Node, TableFault>
-    ensures { told table_refusal result ≡ property_from node f }
-{
-    let Fields { kind, a, b, m, n } = f;
-    match kind {
-        32 if f.unary() => Ok(Node::Property(PropertyNode::Not { a })),
-        33 if f.binary() => Ok(Node::Property(PropertyNode::Or { a, b })),
-        34 if f.binary() => Ok(Node::Property(PropertyNode::And { a, b })),
-        35 if f.binary() => Ok(Node::Property(PropertyNode::Implies { a, b })),
-        36 if f.binary() => Ok(Node::Property(PropertyNode::ImpliesNext { a, b })),
-        38 if f.counted() => Ok(Node::Property(PropertyNode::Nexttime { a, m })),
-        39 if f.ranged() => Ok(Node::Property(PropertyNode::Always { a, m, n })),
-        40 if f.ranged() => Ok(Node::Property(PropertyNode::Eventually { a, m, n })),
-        _ => Err(TableFault::Form { node }),
-    }
-}
-
-// The node that the fields spell: kinds below 16 are Booleans, below 32 sequences.
-fn spell(f: Fields, node: u8) -> Result<Node, TableFault>
-    ensures { told table_refusal result ≡ spelled node f }
-{
-    if f.kind < 16 {
-        boolean(f, node)
-    } else if f.kind < 32 {
-        sequence(f, node)
-    } else {
-        property(f, node)
+        if self.kind < 16 {
+            self.boolean(node)
+        } else if self.kind < 32 {
+            self.sequence(node)
+        } else {
+            self.property(node)
+        }
     }
 }
 
@@ -125,10 +89,8 @@ fn spell(f: Fields, node: u8) -> Result<Node, TableFault>
 pub fn decode(bytes: [u8; 8], node: u8) -> Result<Node, TableFault>
     ensures { told table_refusal result ≡ node_from node bytes }
 {
-    let [kind, a, b, x, m, n, y, z] = bytes;
-    if x == 0 && y == 0 && z == 0 {
-        spell(Fields { kind, a, b, m, n }, node)
-    } else {
-        Err(TableFault::Form { node })
-    }
+    let [kind, a, b, 0, m, n, 0, 0] = bytes else {
+        return Err(TableFault::Form { node });
+    };
+    Fields { kind, a, b, m, n }.spell(node)
 }

@@ -3,7 +3,7 @@
 // An operand `a` or `b` is the number of an earlier node; `m` and `n` are numbers of the node itself.
 
 // A Boolean expression over the signals of one cycle.
-#[derive(Clone, Copy)]
+#[derive(Clone, Copy, PartialEq, Eq, Debug)]
 pub enum BooleanNode {
     Constant { value: bool },
     Signal { m: u8 },
@@ -13,7 +13,7 @@ pub enum BooleanNode {
     Past { a: u8, m: u8 },
 }
 
-#[derive(Clone, Copy)]
+#[derive(Clone, Copy, PartialEq, Eq, Debug)]
 pub enum SequenceNode {
     Delay { a: u8, b: u8, m: u8, n: u8 },
     Fusion { a: u8, b: u8 },
@@ -26,7 +26,7 @@ pub enum SequenceNode {
     FirstMatch { a: u8 },
 }
 
-#[derive(Clone, Copy)]
+#[derive(Clone, Copy, PartialEq, Eq, Debug)]
 pub enum PropertyNode {
     Not { a: u8 },
     Or { a: u8, b: u8 },
@@ -38,15 +38,16 @@ pub enum PropertyNode {
     Eventually { a: u8, m: u8, n: u8 },
 }
 
-#[derive(Clone, Copy)]
+#[derive(Clone, Copy, PartialEq, Eq, Debug)]
 pub enum Node {
     Boolean(BooleanNode),
     Sequence(SequenceNode),
     Property(PropertyNode),
 }
 
-// A Boolean may stand for a sequence, and a sequence for a property.
-#[derive(Clone, Copy)]
+// A Boolean may stand for a sequence, and a sequence for a property: a class for itself and for each
+// that is greater.
+#[derive(Clone, Copy, PartialEq, Eq, PartialOrd, Ord, Debug)]
 pub enum Class {
     Boolean,
     Sequence,
@@ -54,7 +55,7 @@ pub enum Class {
 }
 
 // The class of a node, its shortest and longest length (0 for a property), its horizon and lookback.
-#[derive(Clone, Copy)]
+#[derive(Clone, Copy, PartialEq, Eq, Debug)]
 pub struct Facts {
     pub class: Class,
     pub lo: u16,
@@ -63,15 +64,24 @@ pub struct Facts {
     pub lookback: u16,
 }
 
+// What is known of a node that is not there: nothing.
+pub(crate) const UNKNOWN: Facts = Facts {
+    class: Class::Boolean,
+    lo: 0,
+    hi: 0,
+    horizon: 0,
+    lookback: 0,
+};
+
 // An operand, and the class that it is taken as.
-#[derive(Clone, Copy)]
+#[derive(Clone, Copy, PartialEq, Eq, Debug)]
 pub struct Operand {
     pub node: u8,
     pub role: Class,
 }
 
 // The operands of a node.
-#[derive(Clone, Copy)]
+#[derive(Clone, Copy, PartialEq, Eq, Debug)]
 pub struct Operands {
     pub a: Option<Operand>,
     pub b: Option<Operand>,

@@ -28,13 +28,8 @@ fn read_nodes(bytes: &[u8], header: Header) -> Result<Nodes, TableFault>
 fn last_is_empty(nodes: &Nodes) -> bool
     ensures { result ≡ last_empty (node_list nodes.now) }
 {
-    match nodes.facts(nodes.count().saturating_sub(1)) {
-        Some(last) => match last.class {
-            Class::Sequence => last.lo == 0,
-            Class::Boolean | Class::Property => false,
-        },
-        None => false,
-    }
+    let last = nodes.last_facts();
+    last.class == Class::Sequence && last.lo == 0
 }
 
 // The table that the bytes spell, or why they spell none.
@@ -69,8 +64,7 @@ impl Table {
         ensures fills { Fills bytes.now self.old self.new result }
         ensures exactly { Exactly bytes.now }
     {
-        let table = read(bytes)?;
-        *self = table;
+        *self = read(bytes)?;
         Ok(())
     }
 }

@@ -11,17 +11,18 @@ use crate::span::{LAST_START, Span};
 use crate::table::Table;
 use fault::UnrollFault;
 use nodes::list::Nodes;
+use sva::Reach;
 
-// The cycles from `lookback` before a start, or the first there is, to `horizon` behind it.
-fn span_within(horizon: u16, lookback: u16, start: u64) -> Result<Span, UnrollFault>
-    ensures { told unroll_refusal result ≡ span_within horizon lookback start }
+// The cycles from the lookback before a start, or the first there is, to the horizon behind it.
+fn span_within(reach: Reach, start: u64) -> Result<Span, UnrollFault>
+    ensures { told unroll_refusal result ≡ span_within reach.horizon reach.lookback start }
 {
     if start > LAST_START {
         return Err(UnrollFault::Start);
     }
     Ok(Span {
-        first: start.saturating_sub(lookback as u64),
-        last: start + horizon as u64,
+        first: start.saturating_sub(reach.lookback as u64),
+        last: start + reach.horizon as u64,
     })
 }
 
@@ -45,10 +46,7 @@ impl Table {
         ensures value { result ≡ horizon_of self.now }
         ensures limit { result ≤ 31 }
     {
-        match self.nodes.facts(self.nodes.count() - 1) {
-            Some(property) => property.horizon,
-            None => unreachable(),
-        }
+        self.nodes.last_facts().horizon
     }
 
     // The most cycles before a start that a node looks back.
@@ -59,18 +57,27 @@ impl Table {
         self.nodes.lookback()
     }
 
+    fn reach(&self) -> Reach
+        ensures { result ≡ record { horizon = horizon_of self.now; lookback = lookback_of self.now } }
+    {
+        Reach {
+            horizon: self.horizon(),
+            lookback: self.lookback(),
+        }
+    }
+
     // How many cycles the span of a late start has.
     pub fn widest_span(&self) -> u32
         ensures { result ≡ widest_span (horizon_of self.now) (lookback_of self.now) }
     {
-        sva::widest_span(self.horizon(), self.lookback())
+        self.reach().widest_span()
     }
 
     // How many values of scratch an unrolling takes.
     pub fn scratch_length(&self) -> usize
         ensures { result ≡ scratch_length (length (node_list self.now.nodes)) (horizon_of self.now) (lookback_of self.now) }
     {
-        sva::scratch_length(self.nodes.count(), self.horizon(), self.lookback())
+        self.reach().scratch_length(self.nodes.count())
     }
 
     // The span of a start: two traces that are alike in its cycles give the start the same verdict.
@@ -78,6 +85,6 @@ impl Table {
         ensures value { told unroll_refusal result ≡ span_of self.now start }
         ensures suffices { SpanSuffices self.now start }
     {
-        span_within(self.horizon(), self.lookback(), start)
+        span_within(self.reach(), start)
     }
 }

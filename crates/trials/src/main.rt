@@ -8,53 +8,64 @@
 use anyhow::anyhow;
 use fault::Fault;
 use std::alloc::Global;
+use std::fmt;
 use std::io::{BufRead, BufReader};
+use table::span::Span;
 use table::table::Table;
 
 // The bytes that a text of hexadecimal pairs spells.
 fn parse(heap: Global, text: &str) -> anyhow::Result<Vec<u8>> {
-    let mut bytes = Vec::new(heap);
-    for pair in text.split_whitespace() {
-        bytes.push(u8::from_str_radix(pair, 16)?)?;
-    }
-    Ok(bytes)
+    text.split_whitespace()
+        .map(|pair| -> anyhow::Result<u8> { Ok(u8::from_str_radix(pair, 16)?) })
+        .try_collect(heap)
 }
 
-fn show_accepted(rt: &HostRuntime, title: &str, table: &Table) -> anyhow::Result<()> {
-    let horizon = table.horizon();
-    let lookback = table.lookback();
-    let scratch = table.scratch_length();
-    println!(rt; "{title}: accepted, horizon {horizon}, lookback {lookback}, scratch {scratch}")?;
-    Ok(())
+// What is told of a table that is accepted.
+#[derive(Clone, Copy)]
+enum Accepted {
+    Table {
+        horizon: u16,
+        lookback: u16,
+        scratch: usize,
+    },
+    Start(Span),
 }
 
-fn show_refused(rt: &HostRuntime, title: &str, refused: Fault) -> anyhow::Result<()> {
-    let number = refused.number();
-    let place = refused.place();
-    println!(rt; "{title}: refused {number} {place}")?;
-    Ok(())
-}
-
-fn show_span(rt: &HostRuntime, title: &str, table: &Table, start: u64) -> anyhow::Result<()> {
-    match table.span(start) {
-        Ok(span) => {
-            let first = span.first;
-            let last = span.last;
-            println!(rt; "{title}: span {first} to {last}")?;
-            Ok(())
+impl fmt::Display for Accepted {
+    fn fmt<W: fmt::Write>(&self, f: &mut fmt::Formatter<W>) -> fmt::Result {
+        match *self {
+            Accepted::Table {
+                horizon,
+                lookback,
+                scratch,
+            } => write!(
+                f,
+                "accepted, horizon {horizon}, lookback {lookback}, scratch {scratch}"
+            ),
+            Accepted::Start(Span { first, last }) => write!(f, "span {first} to {last}"),
         }
-        Err(fault) => show_refused(rt, title, Fault::from(fault)),
+    }
+}
+
+fn check(bytes: &[u8], start: Option<u64>) -> Result<Accepted, Fault> {
+    let mut table = Table::new();
+    table.check(bytes)?;
+    match start {
+        None => Ok(Accepted::Table {
+            horizon: table.horizon(),
+            lookback: table.lookback(),
+            scratch: table.scratch_length(),
+        }),
+        Some(start) => Ok(Accepted::Start(table.span(start)?)),
     }
 }
 
 fn try_table(rt: &HostRuntime, title: &str, text: &str, start: Option<u64>) -> anyhow::Result<()> {
-    let bytes = parse(rt.alloc(), text)?;
-    let mut table = Table::new();
-    match (table.check(&bytes), start) {
-        (Ok(()), None) => show_accepted(rt, title, &table),
-        (Ok(()), Some(start)) => show_span(rt, title, &table, start),
-        (Err(fault), _) => show_refused(rt, title, Fault::from(fault)),
+    match check(&parse(rt.alloc(), text)?, start) {
+        Ok(accepted) => println!(rt; "{title}: {accepted}")?,
+        Err(fault) => println!(rt; "{title}: {}", fault.refusal())?,
     }
+    Ok(())
 }
 
 fn try_line(rt: &HostRuntime, line: &str) -> anyhow::Result<()> {

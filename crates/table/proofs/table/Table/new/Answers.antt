@@ -1,7 +1,7 @@
 use Rattle.std.proofs.Common.{length, ap, arith}
 use Rattle.nodes.specs.Trees.{trees_from}
 use Rattle.table.specs.Contents.{last_empty}
-use Rattle.table.proofs.Last.{first_node}
+use Rattle.table.proofs.Single.{first_node}
 use Rattle.table.proofs.table.Table.new.Goals as goal
 
 pub invariant_of-result : goal.invariant_of-result
