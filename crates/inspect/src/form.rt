@@ -4,13 +4,11 @@ use std::fmt;
 
 // A node in the words of SystemVerilog, with its operands as n0, n1 and so on.
 #[derive(Clone, Copy)]
-pub struct Form {
-    pub node: Node,
-}
+pub struct Form(pub Node);
 
 impl fmt::Display for Form {
     fn fmt<W: fmt::Write>(&self, f: &mut fmt::Formatter<W>) -> fmt::Result {
-        match self.node {
+        match self.0 {
             Node::Boolean(node) => boolean(node, f),
             Node::Sequence(node) => sequence(node, f),
             Node::Property(node) => property(node, f),
@@ -58,16 +56,18 @@ fn property<W: fmt::Write>(node: PropertyNode, f: &mut fmt::Formatter<W>) -> fmt
 
 // The class of a node, and its lengths or its horizon.
 #[derive(Clone, Copy)]
-pub struct Extent {
-    pub facts: Facts,
-}
+pub struct Extent(pub Facts);
 
 impl fmt::Display for Extent {
     fn fmt<W: fmt::Write>(&self, f: &mut fmt::Formatter<W>) -> fmt::Result {
-        let lo = self.facts.lo;
-        let hi = self.facts.hi;
-        let horizon = self.facts.horizon;
-        match self.facts.class {
+        let Facts {
+            class,
+            lo,
+            hi,
+            horizon,
+            ..
+        } = self.0;
+        match class {
             Class::Boolean => f.write_str("Boolean, 1 cycle"),
             Class::Sequence => write!(f, "sequence, {lo} to {hi} cycles"),
             Class::Property => write!(f, "property, horizon {horizon}"),

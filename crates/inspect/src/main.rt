@@ -23,8 +23,8 @@ fn show_node(rt: &HostRuntime, nodes: &Nodes, i: u8) -> io::Result<()> {
         return Ok(());
     };
     let heap = rt.alloc();
-    let form = format!(in heap; "{}", Form { node })?;
-    let extent = format!(in heap; "{}", Extent { facts })?;
+    let form = format!(in heap; "{}", Form(node))?;
+    let extent = format!(in heap; "{}", Extent(facts))?;
     let lookback = facts.lookback;
     println!(rt; "n{i:<3} {form:<28} {extent:<28} lookback {lookback}")
 }
@@ -94,7 +94,7 @@ fn show_refused_node(rt: &HostRuntime, bytes: &[u8], i: u8) -> io::Result<()> {
     print!(rt; "  bytes of n{i}:")?;
     show_bytes(rt, &word)?;
     match decode(word, i) {
-        Ok(node) => println!(rt; "  they spell: {}", Form { node }),
+        Ok(node) => println!(rt; "  they spell: {}", Form(node)),
         Err(_) => Ok(()),
     }
 }
@@ -152,19 +152,18 @@ fn inspect_file(rt: &HostRuntime, name: &str) -> io::Result<bool> {
     }
 }
 
+// The files in turn, with an empty line between them; nothing behind the first that cannot be read.
 fn main(rt: HostRuntime) -> io::Result<ExitCode> {
-    let mut named = false;
-    for name in env::args(&rt)?.skip(1) {
-        if named {
-            println!(rt; "")?;
-        }
-        named = true;
+    let mut names = env::args(&rt)?.skip(1);
+    let first = names.next();
+    if !inspect_file(&rt, first.as_deref().unwrap_or("table.bin"))? {
+        return Ok(ExitCode::FAILURE);
+    }
+    for name in names {
+        println!(rt; "")?;
         if !inspect_file(&rt, name.as_str())? {
             return Ok(ExitCode::FAILURE);
         }
     }
-    if named || inspect_file(&rt, "table.bin")? {
-        return Ok(ExitCode::SUCCESS);
-    }
-    Ok(ExitCode::FAILURE)
+    Ok(ExitCode::SUCCESS)
 }
