@@ -25,7 +25,7 @@ def check(top, crate):
 def noticed(text):
     if re.search(r"specs/\w+\.antt:\d+:\d+: error", text):
         return "NO DEFINITION"
-    if re.search(r"proofs/Examples\.antt:\d+:\d+: error", text):
+    if re.search(r"proofs/Examples\.antt:\d+:\d+: error|^fn \w+::laws::\w+_examples: no", text, re.M):
         return "examples"
     return "NOT NOTICED" if re.findall(r"logic=\S+", text)[-1:] == ["logic=proved"] else "proofs"
 

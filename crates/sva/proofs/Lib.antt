@@ -3,4 +3,3 @@ pub mod Bounds
 pub mod Tells
 pub mod Decides
 pub mod Depends
-pub mod Examples
