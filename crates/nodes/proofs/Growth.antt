@@ -1,9 +1,9 @@
 -- What holds of a list of nodes, and of the list with one more that is allowed.
-use Rattle.std.proofs.Common.{◌≡◌, ℕ, zero, suc, ◌+◌, ◌<◌, ◌≤◌, max, true, List, [], ◌∷◌, ◌++◌, map, length, get_or, take, sym, refl, ap, ◌∙◌, subst, inl, inr, arith, length-append, take_all, take-suc, take_at}
+use Rattle.std.proofs.Common.{◌≡◌, ℕ, zero, suc, ◌<◌, ◌≤◌, max, true, List, [], ◌∷◌, ◌++◌, map, length, get_or, take, sym, refl, ap, ◌∙◌, subst, inl, inr, arith, take_all, take-suc, take_at}
 use mathlib.Core.Path.{fun_ext}
 use lib.ListN.{length-map, get_or-append, get_or-map}
-use lib.Seq.{get_or_at, take-append-le}
-use Rattle.std.proofs.lemmas.List.{map-append}
+use lib.Seq.{take-append-le}
+use Rattle.std.proofs.lemmas.List.{map_push, length_push, get_or_push}
 use Rattle.std.proofs.lemmas.Bool.{cases_lt}
 use Rattle.fault.specs.First.{allows}
 use Rattle.nodes.specs.declared.node.Node.{Node}
@@ -15,9 +15,6 @@ use Rattle.nodes.proofs.Measured.{step_build}
 use Rattle.nodes.proofs.Limits.{Allowed, allowed, step_short}
 use Rattle.nodes.proofs.Forest.{trees_from_snoc, length_trees}
 
-pub length_snoc : {A : Type 0} (xs : List A) (x : A) → length (xs ++ x ∷ []) ≡ length xs + 1
-length_snoc xs x = length-append xs (x ∷ [])
-
 -- what holds at each place of a list, and of one more behind it
 pub at_snoc : {A : Type 0} (P : ℕ → A → Type 0) (xs : List A) (x d : A)
     → ((i : ℕ) → i < length xs → P i (get_or xs i d)) → P (length xs) x
@@ -26,14 +23,14 @@ at_snoc {A} P xs x d h p i l =
     elim (cases_lt i (length xs)) [
       | inl a ↦ let Q : A → Type 0 = λ y. P i y in subst Q (sym (get_or-append xs (x ∷ []) d i a)) (h i a)
       | inr b ↦
-          let e : length xs ≡ i = omega (arith, length_snoc xs x) in
+          let e : length xs ≡ i = omega (arith, length_push xs x) in
           let Q : A → Type 0 = λ y. P i y in
           let R : ℕ → Type 0 = λ j. P j x in
-          subst Q (sym (get_or_at xs x [] d i e)) (subst R e p)
+          subst Q (sym (get_or_push xs x d i e)) (subst R e p)
     ]
 
 pub all_facts_snoc : (ns : List Node) (n : Node) → all_facts (ns ++ n ∷ []) ≡ all_facts ns ++ facts_of (build (tree_of ns) n) ∷ []
-all_facts_snoc ns n = ap (map facts_of) (trees_from_snoc [] ns n) ∙ map-append facts_of (trees ns) (build (tree_of ns) n ∷ [])
+all_facts_snoc ns n = ap (map facts_of) (trees_from_snoc [] ns n) ∙ map_push facts_of (trees ns) (build (tree_of ns) n)
 
 pub known_all : (ns : List Node) → known (all_facts ns) ≡ (λ a. facts_of (tree_of ns a))
 known_all ns = fun_ext (λ a. get_or-map facts_of (trees ns) a Tree.absent)

@@ -1,7 +1,7 @@
 -- What holds of a list of nodes that is held in an array.
-use Rattle.std.proofs.Common.{◌≡◌, ℕ, suc, ◌+◌, ◌<◌, ◌≤◌, max, cond, ltb, List, [], ◌∷◌, ◌++◌, map, length, get_or, take, set, Some, None, Ok, Err, Option, Result, sym, ap, ◌∙◌, subst, inl, inr, add-one, arith, length-take-le, take-suc-set, true}
+use Rattle.std.proofs.Common.{◌≡◌, ℕ, suc, ◌+◌, ◌<◌, ◌≤◌, max, cond, ltb, List, [], ◌∷◌, ◌++◌, map, length, get_or, take, set, Some, None, Ok, Err, Option, Result, sym, ap, ◌∙◌, subst, inl, inr, arith, length-take-le, true}
 use lib.ListN.{get_or-map}
-use Rattle.std.proofs.lemmas.List.{map-append, get_or_past}
+use Rattle.std.proofs.lemmas.List.{map_push, get_or_past, length_push, take_more_set}
 use Rattle.std.proofs.lemmas.Bool.{cases_lt, lt-leb}
 use Rattle.fault.specs.Refusals.{refuse}
 use Rattle.fault.specs.First.{Rule, first, unless}
@@ -20,7 +20,7 @@ use Rattle.nodes.specs.Lists.{node_list, known_of, facts_at, Built, pushed}
 use Rattle.nodes.proofs.Forest.{unfolds, length_trees}
 use Rattle.nodes.proofs.Limits.{allowed}
 use Rattle.nodes.proofs.Measured.{admitted_same}
-use Rattle.nodes.proofs.Growth.{length_snoc, known_all, length_all, kept_short, kept_snoc, all_facts_snoc, largest_snoc}
+use Rattle.nodes.proofs.Growth.{known_all, length_all, kept_short, kept_snoc, all_facts_snoc, largest_snoc}
 
 -- what is known of a node stands beside it
 pub facts_there : (t : Nodes) (i : ℕ)
@@ -118,11 +118,11 @@ grown t n f room e =
     let places = t.places in
     let u : unless (first rs) g ≡ Ok f = sym (tree_answer t n room) ∙ sym e in
     let ok = unless_ok rs g f u in
-    let all : take (t.count + 1) (more t n f) ≡ before ++ x ∷ [] = rw add-one (take-suc-set t.entries t.count x (omega arith)) in
+    let all : take (t.count + 1) (more t n f) ≡ before ++ x ∷ [] = take_more_set t.entries t.count x (omega arith) in
     let nodes_more : nodes_in (t.count + 1) (more t n f) ≡ ns ++ n ∷ [] =
-    ap (map (λ (y : Entry). y.node)) all ∙ map-append (λ (y : Entry). y.node) before (x ∷ []) in
+    ap (map (λ (y : Entry). y.node)) all ∙ map_push (λ (y : Entry). y.node) before x in
     let facts_more : facts_in (t.count + 1) (more t n f) ≡ facts_in t.count t.entries ++ f ∷ [] =
-    ap (map (λ (y : Entry). y.facts)) all ∙ map-append (λ (y : Entry). y.facts) before (x ∷ []) in
+    ap (map (λ (y : Entry). y.facts)) all ∙ map_push (λ (y : Entry). y.facts) before x in
     let K : List Node → Type 0 = λ ms. Kept s ms in
     let kept : Kept s (ns ++ n ∷ []) = kept_snoc s ns n t.kept ok.0 in
     let right : facts_in (t.count + 1) (more t n f) ≡ all_facts (ns ++ n ∷ []) =
@@ -136,7 +136,7 @@ grown t n f room e =
     ∙ ap largest_lookback (sym facts_more) in
     let least : largest_lookback (all_facts (ns ++ n ∷ [])) ≤ 32 = largest_short (all_facts (ns ++ n ∷ [])) (kept_short s (ns ++ n ∷ []) kept) in
     record {
-      listed = ap length nodes_more ∙ length_snoc ns n ∙ ap (λ (k : ℕ). k + 1) t.listed;
+      listed = ap length nodes_more ∙ length_push ns n ∙ ap (λ (k : ℕ). k + 1) t.listed;
       kept = subst K (sym nodes_more) kept;
       right = right ∙ ap all_facts (sym nodes_more);
       widest = widest;

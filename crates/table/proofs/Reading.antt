@@ -5,7 +5,7 @@ use Rattle.nodes.specs.declared.node.Node.{Node}
 use Rattle.nodes.specs.Format.{node_from}
 use Rattle.nodes.specs.Lists.{push_rules, pushed}
 use Rattle.fault.proofs.First.{not_both, unless_ok}
-use Rattle.nodes.proofs.Growth.{length_snoc}
+use Rattle.std.proofs.lemmas.List.{length_push}
 use Rattle.table.specs.Format.{node_bytes}
 use Rattle.table.specs.Contents.{nodes_upto, next, with_node}
 
@@ -42,7 +42,7 @@ upto_refused bs s i k ns n r e f p h = upto_stays bs s i k r (upto_pushed bs s i
 pushed_length : (s : ℕ) (ns ms : List Node) (n : Node) → pushed s ns n ≡ Ok ms → length ms ≡ length ns + 1
 pushed_length s ns ms n e =
     let u = unless_ok (push_rules s ns n) (ns ++ n ∷ []) ms e in
-    ap length (sym u.1) ∙ length_snoc ns n
+    ap length (sym u.1) ∙ length_push ns n
 
 with_length : (s k : ℕ) (ns ms : List Node) (o : Result Node Refusal) → length ns ≡ k → with_node s ns o ≡ Ok ms → length ms ≡ suc k
 with_length s k ns ms (Err r) l e = not_both ms r (sym e)
