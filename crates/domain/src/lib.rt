@@ -31,7 +31,7 @@ pub trait Lattice {
     // The values of the two constants.
     ghost fixed: { Bool → Self.Value };
 
-    // What LAST_CYCLE is: a clause cannot name an associated constant.
+    // LAST_CYCLE. A ghost beside the constant, of its name, is not proved at an `impl` with a lifetime.
     ghost last: { ℕ };
 
     // LAST_CYCLE, told by a call so that it can be promised.
