@@ -1,7 +1,7 @@
 // The parts of an and-inverter graph.
 
 // What a literal speaks of.
-#[derive(Clone, Copy)]
+#[derive(Clone, Copy, PartialEq, Eq, Debug)]
 pub enum Variable {
     // What is never true.
     False,
@@ -12,14 +12,14 @@ pub enum Variable {
 }
 
 // A variable or its negation.
-#[derive(Clone, Copy)]
+#[derive(Clone, Copy, PartialEq, Eq, Debug)]
 pub struct Literal {
     pub variable: Variable,
     pub negated: bool,
 }
 
 // True where both its literals are.
-#[derive(Clone, Copy)]
+#[derive(Clone, Copy, PartialEq, Eq, Debug)]
 pub struct Gate {
     pub left: Literal,
     pub right: Literal,
