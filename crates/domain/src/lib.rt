@@ -70,5 +70,5 @@ pub trait Lattice {
 // A Boolean domain: a lattice with negation.
 pub trait Domain: Lattice {
     fn not(&mut self, a: Self::Value) -> Result<Self::Value, DomainFault>
-        ensures { Not (Self.Lattice.meaning self.old) (Self.Lattice.meaning self.new) a result };
+        ensures { Not (Self.meaning self.old) (Self.meaning self.new) a result };
 }

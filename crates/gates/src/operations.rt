@@ -6,7 +6,7 @@ ghost use Rattle.gates.specs.Graph.{literal_truth, gate_truth, truths, constant_
 ghost use Rattle.gates.specs.Lists.{Fresh, gate_list, meaning_of, gate as gate_of, Gives, Appends};
 ghost use Rattle.gates.specs.Steps.{gate_rules, Placed};
 
-use crate::gate::{Gate, Literal, Variable};
+use crate::gate::{Gate, Literal, Variable, neither};
 use crate::list::Gates;
 use domain::{Domain, Lattice};
 use fault::DomainFault;
@@ -15,44 +15,8 @@ use std::alloc::{AllocError, Global};
 // No more gates than these are ever used: 2^32.
 const MOST_PLACES: usize = 1 << 32;
 
-// Cycles from here on are not held: 2^41.
+// Cycles from here on are not held: 2^41. Each domain has a largest cycle of its own.
 const END: u64 = 1 << 41;
-
-impl Literal {
-    // The literal of the opposite truth.
-    pub fn opposite(self) -> Literal
-        ensures value { result ≡ opposite_of self }
-        ensures truth { (τ : Trace) (gates : List Bool) → literal_truth τ gates result ≡ not (literal_truth τ gates self) }
-    {
-        Literal {
-            negated: !self.negated,
-            ..self
-        }
-    }
-}
-
-// The literal that is true where the variable is.
-impl From<Variable> for Literal {
-    ghost from_gives = { λ variable r. r ≡ positive variable };
-
-    fn from(variable: Variable) -> Literal {
-        Literal {
-            variable,
-            negated: false,
-        }
-    }
-}
-
-// The gate that is true where neither literal is.
-fn neither(a: Literal, b: Literal) -> Gate
-    ensures value { result ≡ gate_of (opposite_of a) (opposite_of b) }
-    ensures truth { (τ : Trace) (gates : List Bool) → gate_truth τ gates result ≡ not (literal_truth τ gates a || literal_truth τ gates b) }
-{
-    Gate {
-        left: a.opposite(),
-        right: b.opposite(),
-    }
-}
 
 impl Gates {
     // An empty list for so many gates.
