@@ -31,7 +31,7 @@ pub trait Lattice {
     // The values of the two constants.
     ghost fixed: { Bool → Self.Value };
 
-    // LAST_CYCLE. A ghost beside the constant, of its name, is not proved at an `impl` with a lifetime.
+    // What LAST_CYCLE is. A ghost of the constant's own name gets no proof in an `impl` with a lifetime.
     ghost last: { ℕ };
 
     // LAST_CYCLE, told by a call so that it can be promised.
