@@ -1,8 +1,8 @@
 // What can be done with a list of gates: make one, walk it, and use it as a domain.
-ghost use Rattle.std.specs.Prelude.{◌≡◌, ◌-◌, ◌^◌, Bool, true, false, not, ◌||◌, List, IfOk};
+ghost use Rattle.std.specs.Prelude.{◌≡◌, ◌-◌, ◌^◌, true, false, IfOk};
 ghost use Rattle.sva.specs.Trace.{Trace};
 ghost use Rattle.domain.specs.Operations.{Answered, And, Atom, Not, Or};
-ghost use Rattle.gates.specs.Graph.{literal_truth, gate_truth, truths, constant_literal, positive, atom_literal, opposite as opposite_of, IsGraph};
+ghost use Rattle.gates.specs.Graph.{gate_truth, truths, constant_literal, atom_literal, opposite as opposite_of, IsGraph};
 ghost use Rattle.gates.specs.Lists.{Fresh, gate_list, meaning_of, gate as gate_of, Gives, Appends};
 ghost use Rattle.gates.specs.Steps.{gate_rules, Placed};
 
