@@ -12,111 +12,75 @@
 mod steps;
 mod walk;
 
-use anyhow::anyhow;
-use domain::rows::Rows;
-use fault::{DomainFault, Fault};
+use anyhow::Context;
 use gates::list::Gates;
 use std::alloc::Global;
-use std::fmt;
 use std::io::{BufRead, BufReader};
-use steps::{Step, Stop, evaluate, parse};
-use walk::formula_truth;
+use steps::{Step, Stop, evaluate};
+use walk::Recording;
 
 // One case of the input.
 #[derive(Drop)]
 struct Case {
-    first: u64,
-    rows: Vec<u64>,
+    recording: Recording,
     length: usize,
     steps: Vec<Step>,
 }
 
 fn parse_rows(heap: Global, text: &str) -> anyhow::Result<Vec<u64>> {
-    let mut rows = Vec::new(heap);
-    for row in text.split_whitespace() {
-        rows.push(u64::from_str_radix(row, 16)?)?;
-    }
-    Ok(rows)
+    text.split_whitespace()
+        .map(|row| -> anyhow::Result<u64> { Ok(u64::from_str_radix(row, 16)?) })
+        .try_collect(heap)
 }
 
-fn next_field<'a>(text: &mut &'a str) -> anyhow::Result<&'a str> {
-    match text.split_once(';') {
-        Some((field, rest)) => {
-            *text = rest;
-            Ok(field.trim())
-        }
-        None => Err(anyhow!("a field is missing")),
-    }
+fn parse_steps(heap: Global, text: &str) -> anyhow::Result<Vec<Step>> {
+    text.split_whitespace()
+        .map(|step| step.parse::<Step>())
+        .try_collect(heap)
 }
 
-fn parse_case(heap: Global, mut text: &str) -> anyhow::Result<Case> {
-    let first = next_field(&mut text)?.parse::<u64>()?;
-    let rows = parse_rows(heap, next_field(&mut text)?)?;
-    let length = next_field(&mut text)?.parse::<usize>()?;
-    let steps = parse(heap, text)?;
+// What stands before the next semicolon, and what behind it.
+fn split_field(text: &str) -> anyhow::Result<(&str, &str)> {
+    text.split_once(';').context("a field is missing")
+}
+
+fn parse_case(heap: Global, text: &str) -> anyhow::Result<Case> {
+    let (first, text) = split_field(text)?;
+    let (rows, text) = split_field(text)?;
+    let (length, steps) = split_field(text)?;
     Ok(Case {
-        first,
-        rows,
-        length,
-        steps,
+        recording: Recording {
+            first: first.trim().parse::<u64>()?,
+            rows: parse_rows(heap, rows)?,
+        },
+        length: length.trim().parse::<usize>()?,
+        steps: parse_steps(heap, steps)?,
     })
 }
 
-// What a domain makes of a case.
-#[derive(Clone, Copy)]
-enum Answer {
-    Truth(bool),
-    Refused(DomainFault),
-    // The steps are no expression, or name a gate where there is none.
-    Nothing,
+fn over_rows(heap: Global, case: &Case) -> Result<bool, Stop> {
+    evaluate(heap, &mut case.recording.domain(), &case.steps)
 }
 
-impl fmt::Display for Answer {
-    fn fmt<W: fmt::Write>(&self, f: &mut fmt::Formatter<W>) -> fmt::Result {
-        match *self {
-            Answer::Truth(truth) => write!(f, "{truth}"),
-            Answer::Refused(fault) => {
-                let refused = Fault::from(fault);
-                let number = refused.number();
-                let place = refused.place();
-                write!(f, "refused {number} {place}")
-            }
-            Answer::Nothing => f.write_str("nothing"),
-        }
-    }
+fn over_gates(heap: Global, case: &Case, list: &mut Gates) -> Result<bool, Stop> {
+    let formula = evaluate(heap, list, &case.steps)?;
+    Ok(case.recording.formula_truth(heap, list.gates(), formula)?)
 }
 
-fn stopped(stop: Stop) -> anyhow::Result<Answer> {
-    match stop {
-        Stop::Refused(fault) => Ok(Answer::Refused(fault)),
-        Stop::Malformed => Ok(Answer::Nothing),
-        Stop::NoMemory => Err(anyhow!("no memory")),
-    }
-}
-
-fn over_rows(heap: Global, case: &Case) -> anyhow::Result<Answer> {
-    let mut rows = Rows::new(case.first, &case.rows);
-    match evaluate(heap, &mut rows, &case.steps) {
-        Ok(truth) => Ok(Answer::Truth(truth)),
-        Err(stop) => stopped(stop),
-    }
-}
-
-fn over_gates(heap: Global, case: &Case, gates: &mut Gates) -> anyhow::Result<Answer> {
-    match evaluate(heap, gates, &case.steps) {
-        Ok(formula) => {
-            let truth = formula_truth(heap, case.first, &case.rows, gates.gates(), formula)?;
-            Ok(Answer::Truth(truth))
-        }
-        Err(stop) => stopped(stop),
+// The truth, or why there is none; want of memory is no answer.
+fn told(heap: Global, answer: Result<bool, Stop>) -> anyhow::Result<String> {
+    match answer {
+        Ok(truth) => Ok(format!(in heap; "{truth}")?),
+        Err(stop @ Stop::NoMemory(_)) => Err(stop.into()),
+        Err(stop) => Ok(format!(in heap; "{stop}")?),
     }
 }
 
 fn show_case(rt: &HostRuntime, title: &str, case: &Case) -> anyhow::Result<()> {
     let heap = rt.alloc();
     let mut list = Gates::new(heap, case.length)?;
-    let rows = over_rows(heap, case)?;
-    let gates = over_gates(heap, case, &mut list)?;
+    let rows = told(heap, over_rows(heap, case))?;
+    let gates = told(heap, over_gates(heap, case, &mut list))?;
     let used = list.gates().len();
     let free = list.free();
     println!(rt; "{title}: rows {rows}, gates {gates}, {used} used, {free} free")?;
@@ -126,9 +90,7 @@ fn show_case(rt: &HostRuntime, title: &str, case: &Case) -> anyhow::Result<()> {
 fn run(rt: &HostRuntime) -> anyhow::Result<()> {
     for line in BufReader::new(rt.alloc(), rt.stdin())?.lines(rt.alloc()) {
         let line = line?;
-        let Some((title, rest)) = line.split_once(';') else {
-            return Err(anyhow!("a line has no semicolon"));
-        };
+        let (title, rest) = line.split_once(';').context("a line has no semicolon")?;
         let case = parse_case(rt.alloc(), rest)?;
         show_case(rt, title, &case)?;
     }

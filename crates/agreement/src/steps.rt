@@ -1,12 +1,15 @@
 // Expressions, as steps that any domain can follow.
-use anyhow::anyhow;
+use anyhow::{Context, anyhow};
 use domain::Domain;
 use domain::rows::Rows;
-use fault::DomainFault;
+use fault::{DomainFault, Fault, Refusal};
 use gates::gate::{Literal, Variable};
 use gates::list::Gates;
-use std::alloc::{AllocFailed, Global};
+use std::alloc::{AllocError, Global};
+use std::str::FromStr;
+use thiserror::Error;
 
+// A step is read from text and followed over two domains with values of two types, so it is no closure.
 #[derive(Clone, Copy)]
 pub enum Step {
     Constant(bool),
@@ -18,22 +21,20 @@ pub enum Step {
 }
 
 // Why an expression has no value.
-#[derive(Clone, Copy)]
+#[derive(Debug, Drop, Error)]
 pub enum Stop {
-    Refused(DomainFault),
+    #[error("refused {} {}", .0.number, .0.place)]
+    Refused(Refusal),
+    // The steps are no expression, or name a gate where there is none.
+    #[error("nothing")]
     Malformed,
-    NoMemory,
+    #[error("no memory")]
+    NoMemory(#[from(alloc)] AllocError),
 }
 
 impl From<DomainFault> for Stop {
     fn from(fault: DomainFault) -> Stop {
-        Stop::Refused(fault)
-    }
-}
-
-impl<T: Drop> From<AllocFailed<T>> for Stop {
-    fn from(_refused: AllocFailed<T>) -> Stop {
-        Stop::NoMemory
+        Stop::Refused(Fault::from(fault).refusal())
     }
 }
 
@@ -50,46 +51,48 @@ impl<'a> Forge for Rows<'a> {
 
 impl Forge for Gates {
     fn forged(place: u32) -> Option<Literal> {
-        Some(Literal {
-            variable: Variable::Gate { place },
-            negated: false,
-        })
+        Some(Literal::from(Variable::Gate { place }))
     }
 }
 
 fn parse_atom(text: &str) -> anyhow::Result<Step> {
-    match text.split_once('@') {
-        Some((signal, cycle)) => Ok(Step::Atom {
-            signal: signal.parse::<u8>()?,
-            cycle: cycle.parse::<u64>()?,
-        }),
-        None => Err(anyhow!("an atom has no cycle")),
+    let (signal, cycle) = text.split_once('@').context("an atom has no cycle")?;
+    Ok(Step::Atom {
+        signal: signal.parse::<u8>()?,
+        cycle: cycle.parse::<u64>()?,
+    })
+}
+
+impl FromStr for Step {
+    type Err = anyhow::Error;
+
+    fn from_str(text: &str) -> anyhow::Result<Step> {
+        match text {
+            "0" => Ok(Step::Constant(false)),
+            "1" => Ok(Step::Constant(true)),
+            "!" => Ok(Step::Not),
+            "&" => Ok(Step::And),
+            "|" => Ok(Step::Or),
+            _ => match (text.strip_prefix('s'), text.strip_prefix('g')) {
+                (Some(atom), _) => parse_atom(atom),
+                (None, Some(place)) => Ok(Step::Gate {
+                    place: place.parse::<u32>()?,
+                }),
+                (None, None) => Err(anyhow!("a step is none")),
+            },
+        }
     }
 }
 
-fn parse_step(text: &str) -> anyhow::Result<Step> {
-    match text {
-        "0" => Ok(Step::Constant(false)),
-        "1" => Ok(Step::Constant(true)),
-        "!" => Ok(Step::Not),
-        "&" => Ok(Step::And),
-        "|" => Ok(Step::Or),
-        _ => match (text.strip_prefix('s'), text.strip_prefix('g')) {
-            (Some(atom), _) => parse_atom(atom),
-            (None, Some(place)) => Ok(Step::Gate {
-                place: place.parse::<u32>()?,
-            }),
-            (None, None) => Err(anyhow!("a step is none")),
-        },
-    }
+fn pop<V>(values: &mut Vec<V>) -> Result<V, Stop> {
+    values.pop().ok_or(Stop::Malformed)
 }
 
-pub(crate) fn parse(heap: Global, text: &str) -> anyhow::Result<Vec<Step>> {
-    let mut steps = Vec::new(heap);
-    for step in text.split_whitespace() {
-        steps.push(parse_step(step)?)?;
-    }
-    Ok(steps)
+// The two values that were worked out last, in their order.
+fn pop_two<V: Drop>(values: &mut Vec<V>) -> Result<(V, V), Stop> {
+    let b = pop(values)?;
+    let a = pop(values)?;
+    Ok((a, b))
 }
 
 fn follow<D: Forge>(
@@ -102,17 +105,15 @@ fn follow<D: Forge>(
         Step::Atom { signal, cycle } => Ok(domain.atom(signal, cycle)?),
         Step::Gate { place } => D::forged(place).ok_or(Stop::Malformed),
         Step::Not => {
-            let a = values.pop().ok_or(Stop::Malformed)?;
+            let a = pop(values)?;
             Ok(domain.not(a)?)
         }
         Step::And => {
-            let b = values.pop().ok_or(Stop::Malformed)?;
-            let a = values.pop().ok_or(Stop::Malformed)?;
+            let (a, b) = pop_two(values)?;
             Ok(domain.and(a, b)?)
         }
         Step::Or => {
-            let b = values.pop().ok_or(Stop::Malformed)?;
-            let a = values.pop().ok_or(Stop::Malformed)?;
+            let (a, b) = pop_two(values)?;
             Ok(domain.or(a, b)?)
         }
     }
@@ -125,9 +126,10 @@ pub(crate) fn evaluate<D: Forge>(
     steps: &[Step],
 ) -> Result<D::Value, Stop> {
     let mut values = Vec::new(heap);
+    // Each step takes what those before it left, and so no chain of them collects.
     for step in steps {
         let value = follow(domain, &mut values, *step)?;
         values.push(value)?;
     }
-    values.pop().ok_or(Stop::Malformed)
+    pop(&mut values)
 }

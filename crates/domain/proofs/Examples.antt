@@ -1,7 +1,7 @@
 -- Every example of the contract stands.
-use Rattle.std.proofs.Common.{◌≡◌, ℕ, suc, ◌≤◌, Bool, true, false, ◌||◌, ltb, leb, sym, refl, ap, arith}
+use Rattle.std.proofs.Common.{ℕ, suc, ◌≤◌, true, false, ltb, leb, sym, refl, ap, arith}
+use Rattle.std.proofs.Math.Bool.{or_self}
 use Rattle.std.proofs.lemmas.Bool.{and_parts, false≢true, lt-ltb, ltb-true}
-use Rattle.fault.specs.declared.Refusal.{Refusal}
 use Rattle.domain.specs.Meaning.{Grown}
 use Rattle.domain.specs.Examples.{Examples, small}
 
@@ -14,20 +14,12 @@ grown i j f g l m n = record {
   none_added = omega arith;
 }
 
--- what has another number is another refusal
-other : (r s : Refusal) (m n : ℕ) → r.number ≡ m → s.number ≡ n → suc n ≤ m → r ≡ s → ⊥
-other r s m n p q l e = omega (arith, p, q, ap (λ x. x.number) e)
-
-twice : (ρ : Bool) → ρ ≡ (ρ || ρ)
-twice true = refl
-twice false = refl
-
 pub examples : Examples
 examples = record {
   accepted = (
     record { allowed = refl; denotes = record { issued = refl; truth = λ ρ _. refl }; grown = grown 3 3 4 3 (omega arith) (omega arith) (omega arith) },
     record { allowed = refl; denotes = record { issued = refl; truth = λ ρ _. refl }; grown = grown 3 3 4 4 (omega arith) (omega arith) (omega arith) },
-    record { allowed = refl; denotes = record { issued = refl; truth = λ ρ _. twice ρ }; grown = grown 3 4 4 3 (omega arith) (omega arith) (omega arith) },
+    record { allowed = refl; denotes = record { issued = refl; truth = λ ρ _. sym (or_self ρ) }; grown = grown 3 4 4 3 (omega arith) (omega arith) (omega arith) },
     record { allowed = refl; denotes = record { issued = refl; truth = λ ρ _. refl }; grown = grown 3 3 0 0 (omega arith) (omega arith) (omega arith) },
     record { allowed = refl; denotes = record { issued = refl; truth = λ ρ _. refl }; grown = grown 3 3 1 0 (omega arith) (omega arith) (omega arith) },
     record { allowed = refl; denotes = record { issued = refl; truth = λ ρ _. refl }; grown = grown 3 3 4 4 (omega arith) (omega arith) (omega arith) },
@@ -74,13 +66,13 @@ examples = record {
     record { same = refl; due = (refl, refl) },
   );
   not_refused = (
-    λ a. other _ _ 25 24 refl refl (omega arith) a.due.0,
+    λ a. omega (arith, ap (λ r. r.number) a.due.0),
     λ a. omega (arith, a.due.1),
-    λ a. other _ _ 26 24 refl refl (omega arith) a.due.0,
-    λ a. other _ _ 25 24 refl refl (omega arith) (sym a.due),
-    λ a. other _ _ 26 24 refl refl (omega arith) a.due.0,
-    λ a. other _ _ 26 25 refl refl (omega arith) (sym a.due),
-    λ a. other _ _ 26 24 refl refl (omega arith) (sym a.due),
+    λ a. omega (arith, ap (λ r. r.number) a.due.0),
+    λ a. omega (arith, ap (λ r. r.number) a.due),
+    λ a. omega (arith, ap (λ r. r.number) a.due.0),
+    λ a. omega (arith, ap (λ r. r.number) a.due),
+    λ a. omega (arith, ap (λ r. r.number) a.due),
     λ a. omega (arith, a.due.1),
   );
   unchanged = (

@@ -17,8 +17,8 @@ use Rattle.domain.proofs.Growth.{grown_same, grown_most, grown_then, reading_bac
 -- only one fault has number 24
 is_full : (fault : DomainFault) → domain_refusal fault ≡ refuse In.Domain 24 0 → fault ≡ Full
 is_full Full e = refl
-is_full NotIssued e = let z : ◌≡◌ {A = ℕ} 25 24 = ap (λ r. r.number) e in let z' : ⊥ = omega arith in absurd z'
-is_full NotThere e = let z : ◌≡◌ {A = ℕ} 26 24 = ap (λ r. r.number) e in let z' : ⊥ = omega arith in absurd z'
+is_full NotIssued e = absurd (omega (arith, ap (λ r. r.number) e))
+is_full NotThere e = absurd (omega (arith, ap (λ r. r.number) e))
 
 -- a rule that asks for what is there allows
 pub holds_allows : {there : Bool} → there ≡ true → (not (not there) && true) ≡ true

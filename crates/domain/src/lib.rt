@@ -31,7 +31,7 @@ pub trait Lattice {
     // The values of the two constants.
     ghost fixed: { Bool → Self.Value };
 
-    // What LAST_CYCLE is: a clause cannot name an associated constant.
+    // What LAST_CYCLE is. A ghost of the constant's own name gets no proof in an `impl` with a lifetime.
     ghost last: { ℕ };
 
     // LAST_CYCLE, told by a call so that it can be promised.
@@ -70,5 +70,5 @@ pub trait Lattice {
 // A Boolean domain: a lattice with negation.
 pub trait Domain: Lattice {
     fn not(&mut self, a: Self::Value) -> Result<Self::Value, DomainFault>
-        ensures { Not (Self.Lattice.meaning self.old) (Self.Lattice.meaning self.new) a result };
+        ensures { Not (Self.meaning self.old) (Self.meaning self.new) a result };
 }

@@ -1,5 +1,5 @@
 // The rows domain: recorded rows from a first cycle on. A value is its truth in these rows.
-ghost use Rattle.std.specs.Prelude.{◌≡◌};
+ghost use Rattle.std.specs.Prelude.{◌≡◌, ◌-◌, ◌^◌};
 ghost use Rattle.domain.specs.Operations.{And, Atom, Not, Or};
 ghost use Rattle.domain.specs.Recorded.{rows_meaning, meaning_of, ReadsRows};
 
@@ -36,10 +36,10 @@ impl<'a> Lattice for Rows<'a> {
 
     ghost fixed = { λ b. b };
 
-    ghost last = { 2199023255551 };
+    ghost last = { 2 ^ 41 - 1 };
 
     fn largest_cycle() -> u64
-        ensures { result ≡ 2199023255551 }
+        ensures { result ≡ 2 ^ 41 - 1 }
     {
         Self::LAST_CYCLE
     }

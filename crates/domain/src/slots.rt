@@ -3,12 +3,11 @@ ghost use Rattle.std.specs.Prelude.{◌≡◌, false, length, replicate};
 
 use crate::Lattice;
 
+// The slice's own `fill` wants a type whose clones are known to be equal, which `Copy` does not say.
 fn fill<V: Copy>(slots: &mut [V], value: V)
     ensures { slots.new ≡ replicate (length slots.old) value }
 {
-    for slot in slots.iter_mut() {
-        *slot = value;
-    }
+    slots.fill_with(|| value);
 }
 
 // Every slot becomes the constant false.

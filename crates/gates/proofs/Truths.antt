@@ -1,6 +1,5 @@
 -- What a list of gates says, and what one more gate leaves as it was.
-use Rattle.std.proofs.Common.{◌≡◌, ℕ, zero, suc, ◌+◌, ◌<◌, ◌≤◌, Bool, true, false, cond, not, ◌&&◌, List, [], ◌∷◌, ◌++◌, length, get_or, sym, refl, ap, ◌∙◌, subst, ap₂, append_assoc, append-nil, le_of_suc-le-suc, arith, length-append}
-use mathlib.Core.Bool.{not-not}
+use Rattle.std.proofs.Common.{◌≡◌, ℕ, zero, suc, ◌+◌, ◌<◌, ◌≤◌, Bool, true, false, cond, not, ◌&&◌, List, [], ◌∷◌, ◌++◌, length, get_or, sym, refl, ap, ◌∙◌, ap₂, append_assoc, append-nil, le_of_suc-le-suc, arith, length-append}
 use Rattle.std.proofs.lemmas.List.{get_or_append_left, get_or_at, get_or_push}
 use Rattle.std.proofs.lemmas.Bool.{and_from, and_parts, ltb-true, lt-ltb}
 use Rattle.sva.specs.Trace.{Trace}
@@ -125,12 +124,6 @@ module _ (gs : List Gate) (g : Gate) (places : ℕ) (room : length gs < places) 
   }
 
 -- it takes one place, and its literal denotes what it says
-pub pushed : (gs hs : List Gate) (g : Gate) (places place : ℕ) → known_gate (length gs) g ≡ true → hs ≡ gs ++ g ∷ [] → place ≡ length gs → place < places
-    → Accepted (gates_meaning gs places) (gates_meaning hs places) (operands (known_gate (length gs) g) ∷ []) (λ τ. gate_truth τ (truths τ gs) g) (output place false)
-pushed gs hs g places place k e p room =
-    let Is : List Gate → ℕ → Type 0 = λ after i. Accepted (gates_meaning gs places) (gates_meaning after places) (operands (known_gate (length gs) g) ∷ []) (λ τ. gate_truth τ (truths τ gs) g) (output i false) in
-    subst (λ after. Is after place) (sym e) (subst (Is (gs ++ g ∷ [])) (sym p) (accepted gs g places (omega arith) k))
-
--- twice not
-pub not_twice : {t u v : Bool} → t ≡ not u → u ≡ not v → t ≡ v
-not_twice {v = v} e f = e ∙ ap not f ∙ not-not v
+pub pushed : (gs hs : List Gate) (g : Gate) (places after : ℕ) (l : Literal) → known_gate (length gs) g ≡ true → hs ≡ gs ++ g ∷ [] → after ≡ places → l ≡ output (length gs) false → length gs < places
+    → Accepted (gates_meaning gs places) (gates_meaning hs after) (operands (known_gate (length gs) g) ∷ []) (λ τ. gate_truth τ (truths τ gs) g) l
+pushed gs hs g places after l k e p i room = rw (e, p, i) (accepted gs g places room k)

@@ -61,8 +61,12 @@ gates_meaning gs places = record {
 abbrev pub constant_literal : Bool → Literal
 constant_literal b = record { variable = False; negated = b }
 
+-- the literal that is true where the variable is
+abbrev pub positive : Variable → Literal
+positive v = record { variable = v; negated = false }
+
 abbrev pub atom_literal : (signal cycle : ℕ) → Literal
-atom_literal k c = record { variable = Atom k c; negated = false }
+atom_literal k c = positive (Atom k c)
 
 abbrev pub opposite : Literal → Literal
 opposite l = record { variable = l.variable; negated = not l.negated }

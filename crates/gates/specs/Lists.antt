@@ -1,5 +1,5 @@
 -- What the calls on a list of gates do.
-use Rattle.std.specs.Prelude.{◌≡◌, ℕ, ◌^◌, min, Bool, true, List, [], ◌∷◌, ◌++◌, length, IfOk, Ok, Err, vec_items, Result, nat_lt}
+use Rattle.std.specs.Prelude.{◌≡◌, ℕ, ◌^◌, min, Bool, true, List, [], ◌∷◌, ◌++◌, length, IfOk, Ok, Err, vec_items, vec_capacity, Result, nat_lt}
 use Rattle.fault.specs.declared.DomainFault.{DomainFault}
 use Rattle.sva.specs.Trace.{Trace}
 use Rattle.domain.specs.Meaning.{Meaning, held}
@@ -12,14 +12,18 @@ use Rattle.gates.specs.Graph.{gates_meaning}
 abbrev pub gate_list : Gates → List Gate
 gate_list d = vec_items d.gates
 
+-- how many gates it has room for
+abbrev pub places_of : Gates → ℕ
+places_of d = vec_capacity d.gates
+
 abbrev pub meaning_of : Gates → Meaning Literal Trace
-meaning_of d = gates_meaning (gate_list d) d.places
+meaning_of d = gates_meaning (gate_list d) (places_of d)
 
 -- a list as it is made: no gate, as many free places as were asked for, but no more than 2^32; every
 -- trace is a reading, over cycles 0 to 2^41 - 1
 pub record Fresh (wanted : ℕ) (d : Gates) : Type 0 where
   pub gates : gate_list d ≡ []
-  pub places : d.places ≡ min wanted (2 ^ 32)
+  pub places : places_of d ≡ min wanted (2 ^ 32)
   pub free : (meaning_of d).free ≡ min wanted (2 ^ 32)
   pub reads : (τ : Trace) → (meaning_of d).frame.reading τ ≡ true
   pub trace : (τ : Trace) → (meaning_of d).frame.trace τ ≡ τ
@@ -40,7 +44,7 @@ pub record Gives (old new : Gates) (l : Literal) (r : Result Literal DomainFault
 -- a gate was put behind the others, and the answer is its literal, negated or not
 pub record Appended (old new : Gates) (g : Gate) (negated : Bool) (l : Literal) : Type 0 where
   pub gates : gate_list new ≡ gate_list old ++ g ∷ []
-  pub places : new.places ≡ old.places
+  pub places : places_of new ≡ places_of old
   pub literal : l ≡ output (length (gate_list old)) negated
 
 -- an operation that takes a place, or is refused

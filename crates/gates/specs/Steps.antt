@@ -8,7 +8,7 @@ use Rattle.domain.specs.Operations.{operands, Due}
 use Rattle.gates.specs.declared.gate.Gate.{Gate}
 use Rattle.gates.specs.declared.list.Gates.{Gates}
 use Rattle.gates.specs.Graph.{known_gate}
-use Rattle.gates.specs.Lists.{gate_list, meaning_of}
+use Rattle.gates.specs.Lists.{gate_list, places_of, meaning_of}
 
 -- what one more gate is refused for before it asks for a place
 abbrev pub gate_rules : Gates → Gate → List Rule
@@ -18,7 +18,7 @@ gate_rules d g = operands (known_gate (length (gate_list d)) g) ∷ []
 pub record Place (d : Gates) (g : Gate) (place : ℕ) : Type 0 where
   pub known : known_gate (length (gate_list d)) g ≡ true
   pub next : place ≡ length (gate_list d)
-  pub room : place < d.places
+  pub room : place < places_of d
 
 abbrev pub Placed : (d : Gates) → Gate → Result ℕ DomainFault → Type 0
 Placed d g (Ok place) = Place d g place

@@ -1,12 +1,12 @@
 // What can be done with a list of gates: make one, walk it, and use it as a domain.
-ghost use Rattle.std.specs.Prelude.{◌≡◌, Bool, true, false, not, ◌||◌, List, IfOk};
+ghost use Rattle.std.specs.Prelude.{◌≡◌, ◌-◌, ◌^◌, true, false, IfOk};
 ghost use Rattle.sva.specs.Trace.{Trace};
 ghost use Rattle.domain.specs.Operations.{Answered, And, Atom, Not, Or};
-ghost use Rattle.gates.specs.Graph.{literal_truth, gate_truth, truths, constant_literal, atom_literal, opposite as opposite_of, IsGraph};
+ghost use Rattle.gates.specs.Graph.{gate_truth, truths, constant_literal, atom_literal, opposite as opposite_of, IsGraph};
 ghost use Rattle.gates.specs.Lists.{Fresh, gate_list, meaning_of, gate as gate_of, Gives, Appends};
 ghost use Rattle.gates.specs.Steps.{gate_rules, Placed};
 
-use crate::gate::{Gate, Literal, Variable};
+use crate::gate::{Gate, Literal, Variable, neither};
 use crate::list::Gates;
 use domain::{Domain, Lattice};
 use fault::DomainFault;
@@ -15,41 +15,16 @@ use std::alloc::{AllocError, Global};
 // No more gates than these are ever used: 2^32.
 const MOST_PLACES: usize = 1 << 32;
 
-// Cycles from here on are not held: 2^41.
+// Cycles from here on are not held: 2^41. Each domain has a largest cycle of its own.
 const END: u64 = 1 << 41;
-
-impl Literal {
-    // The literal of the opposite truth.
-    pub fn opposite(self) -> Literal
-        ensures value { result ≡ opposite_of self }
-        ensures truth { (τ : Trace) (gates : List Bool) → literal_truth τ gates result ≡ not (literal_truth τ gates self) }
-    {
-        Literal {
-            variable: self.variable,
-            negated: !self.negated,
-        }
-    }
-}
-
-// The gate that is true where neither literal is.
-fn neither(a: Literal, b: Literal) -> Gate
-    ensures value { result ≡ gate_of (opposite_of a) (opposite_of b) }
-    ensures truth { (τ : Trace) (gates : List Bool) → gate_truth τ gates result ≡ not (literal_truth τ gates a || literal_truth τ gates b) }
-{
-    Gate {
-        left: a.opposite(),
-        right: b.opposite(),
-    }
-}
 
 impl Gates {
     // An empty list for so many gates.
     pub fn new(heap: Global, length: usize) -> Result<Gates, AllocError>
         ensures { IfOk result (Fresh length) }
     {
-        let places = length.min(MOST_PLACES);
-        let gates = Vec::with_capacity(heap, places)?;
-        Ok(Gates { gates, places })
+        let gates = Vec::with_capacity(heap, length.min(MOST_PLACES))?;
+        Ok(Gates { gates })
     }
 
     // The gates, in their order: each is true exactly where both its literals are, and these speak
@@ -65,21 +40,20 @@ impl Gates {
     pub fn free(&self) -> usize
         ensures { result ≡ (meaning_of self.now).free }
     {
-        self.places - self.gates.len()
+        self.gates.capacity() - self.gates.len()
     }
 
     // The place of one more gate, or why it gets none.
-    fn next_place(&self, gate: Gate) -> Result<usize, DomainFault>
+    fn next_place(&self, gate: Gate) -> Result<u32, DomainFault>
         ensures { Placed self.now gate result }
     {
         if !self.issued(gate.left) || !self.issued(gate.right) {
             return Err(DomainFault::NotIssued);
         }
-        let place = self.gates.len();
-        if place >= self.places {
+        if self.free() == 0 {
             return Err(DomainFault::Full);
         }
-        Ok(place)
+        Ok(self.gates.len() as u32)
     }
 
     // One gate more.
@@ -89,12 +63,7 @@ impl Gates {
     {
         let place = self.next_place(gate)?;
         self.gates.push_reserved(gate);
-        Ok(Literal {
-            variable: Variable::Gate {
-                place: place as u32,
-            },
-            negated: false,
-        })
+        Ok(Literal::from(Variable::Gate { place }))
     }
 }
 
@@ -109,7 +78,7 @@ impl Lattice for Gates {
 
     ghost fixed = { constant_literal };
 
-    ghost last = { 2199023255551 };
+    ghost last = { 2 ^ 41 - 1 };
 
     fn largest_cycle() -> u64 {
         Self::LAST_CYCLE
@@ -143,13 +112,11 @@ impl Lattice for Gates {
         ensures answer { Atom (meaning_of self.old) (meaning_of self.new) signal cycle result }
         ensures gives { Gives self.old self.new (atom_literal signal cycle) result }
     {
-        if signal > 63 || cycle >= END {
+        let atom = Literal::from(Variable::Atom { signal, cycle });
+        if !self.issued(atom) {
             return Err(DomainFault::Atom);
         }
-        Ok(Literal {
-            variable: Variable::Atom { signal, cycle },
-            negated: false,
-        })
+        Ok(atom)
     }
 
     fn and(&mut self, a: Literal, b: Literal) -> Result<Literal, DomainFault>

@@ -1,9 +1,8 @@
-use Rattle.std.proofs.Common.{arith}
-use Rattle.domain.proofs.Fills.{fill_more, fill_all}
+use Rattle.std.proofs.Common.{rules, ap, ◌∙◌, replicate}
+use Rattle.domain.proofs.Fills.{filled}
 use Rattle.domain.proofs.slots.fill.Goals as goal
 
-pub loop-slot-preserved : goal.loop-slot-preserved
-loop-slot-preserved g c = fill_more c.args.slots.now c.loop-slot.slots c.loop-slot.slot-index c.args.value (omega arith) c.loop-slot.invariant
-
 pub returns : goal.returns
-returns g c = fill_all c.args.slots.now c.loop-slot.slots c.loop-slot.slot-index c.args.value (omega arith) c.loop-slot.invariant
+returns g c =
+    filled _ c.args.value _ c.fill_with.ensures.ran.0 _ (λ x u k. search rules) c.fill_with.ensures.ran.1
+    ∙ ap (λ n. replicate n c.args.value) c.fill_with.ensures.len

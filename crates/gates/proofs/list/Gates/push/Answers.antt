@@ -1,28 +1,16 @@
-use Rattle.std.proofs.Common.{false, refl, ap, arith}
+use Rattle.std.proofs.Common.{false, ap, ◌∙◌, arith}
 use Rattle.gates.specs.Lists.{output}
 use Rattle.gates.proofs.Truths.{ordered_push, pushed}
 use Rattle.gates.proofs.list.Gates.push.Goals as goal
 
-pub invariant_of-self : goal.invariant_of-self
-invariant_of-self c =
-    let old = c.args.self.now in
+pub invariant_of-self-clause-order : goal.invariant_of-self-clause-order
+invariant_of-self-clause-order c =
     let place = c.in_ok-place.ensures in
-    record {
-      reserved = omega arith;
-      fits = omega (arith, old.gates.ok.0);
-      few = old.few;
-      order = ordered_push _ _ c.args.gate c.push_reserved.ensures.items old.order place.known;
-    }
+    ordered_push _ _ c.args.gate c.push_reserved.ensures.items c.args.self.now.order place.known
 
-pub returns : goal.returns
-returns c =
-    let items = c.push_reserved.ensures.items in
+pub returns-clause-answer : goal.returns-clause-answer
+returns-clause-answer c =
     let place = c.in_ok-place.ensures in
-    record {
-      answer = pushed _ _ c.args.gate _ _ place.known items place.next place.room;
-      appends = record {
-        gates = items;
-        places = refl;
-        literal = ap (λ i. output i false) place.next;
-      };
-    }
+    let put = c.push_reserved.ensures in
+    let literal = c.from.ensures ∙ ap (λ i. output i false) place.next in
+    pushed _ _ c.args.gate _ _ _ place.known put.items put.capacity literal (omega arith)
