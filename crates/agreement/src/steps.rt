@@ -23,7 +23,7 @@ pub enum Step {
 // Why an expression has no value.
 #[derive(Debug, Drop, Error)]
 pub enum Stop {
-    #[error("refused {} {}", .0.number, .0.place)]
+    #[error(transparent)]
     Refused(Refusal),
     // The steps are no expression, or name a gate where there is none.
     #[error("nothing")]
