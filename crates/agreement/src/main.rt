@@ -46,13 +46,12 @@ fn split_field(text: &str) -> anyhow::Result<(&str, &str)> {
 
 fn parse_case(heap: Global, text: &str) -> anyhow::Result<Case> {
     let (first, text) = split_field(text)?;
+    let first = first.trim().parse::<u64>()?;
     let (rows, text) = split_field(text)?;
+    let rows = parse_rows(heap, rows)?;
     let (length, steps) = split_field(text)?;
     Ok(Case {
-        recording: Recording {
-            first: first.trim().parse::<u64>()?,
-            rows: parse_rows(heap, rows)?,
-        },
+        recording: Recording { first, rows },
         length: length.trim().parse::<usize>()?,
         steps: parse_steps(heap, steps)?,
     })
