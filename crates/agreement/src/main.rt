@@ -27,6 +27,7 @@ struct Case {
     steps: Vec<Step>,
 }
 
+// Parsers that allocate are functions: `FromStr` is lent no allocator.
 fn parse_rows(heap: Global, text: &str) -> anyhow::Result<Vec<u64>> {
     text.split_whitespace()
         .map(|row| -> anyhow::Result<u64> { Ok(u64::from_str_radix(row, 16)?) })

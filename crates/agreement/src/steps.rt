@@ -32,6 +32,7 @@ pub enum Stop {
     NoMemory(#[from(alloc)] AllocError),
 }
 
+// By hand, since it keeps what is told of the fault.
 impl From<DomainFault> for Stop {
     fn from(fault: DomainFault) -> Stop {
         Stop::Refused(Fault::from(fault).refusal())

@@ -13,7 +13,7 @@ pub struct Rows<'a> {
     rows: &'a [u64],
 }
 
-// Rows that would go on from here are not held at all: 2^41.
+// Rows that would go on from here are not held at all: 2^41. Each domain has a largest cycle of its own.
 const END: u64 = 1 << 41;
 
 impl<'a> Rows<'a> {

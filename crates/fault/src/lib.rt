@@ -118,7 +118,7 @@ pub enum Layer {
     Report,
 }
 
-// What is told of a refusal.
+// What is told of a refusal. Outside it is known by its number; code passes the enum.
 #[derive(Clone, Copy, PartialEq, Eq, Debug)]
 pub struct Refusal {
     pub layer: Layer,
@@ -240,6 +240,7 @@ impl Fault {
     }
 }
 
+// By hand, since these promise that the case is kept: the derive's `From` promises nothing.
 impl From<TableFault> for Fault {
     ghost from_gives = { λ fault r. r ≡ OfTable fault };
 

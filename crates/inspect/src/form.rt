@@ -1,4 +1,4 @@
-// How nodes are written for a reader.
+// How nodes are written for a reader: by hand, since the words of SystemVerilog follow from no derive.
 use nodes::node::{BooleanNode, Class, Facts, Node, PropertyNode, SequenceNode};
 use std::fmt;
 

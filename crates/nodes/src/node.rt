@@ -1,6 +1,7 @@
 // A node of a table and what is known of it.
 //
-// An operand `a` or `b` is the number of an earlier node; `m` and `n` are numbers of the node itself.
+// An operand `a` or `b` is the number of an earlier node, as in a table's bytes: nodes share operands, and
+// their memory is fixed. `m` and `n` are numbers of the node itself.
 
 // A Boolean expression over the signals of one cycle.
 #[derive(Clone, Copy, PartialEq, Eq, Debug)]
@@ -54,7 +55,9 @@ pub enum Class {
     Property,
 }
 
-// The class of a node, its shortest and longest length (0 for a property), its horizon and lookback.
+// The class of a node, its shortest and longest length (0 for a property), its horizon and lookback. One
+// struct for all classes: a Boolean that stands for a sequence has lengths, and a sequence that stands
+// for a property has a horizon.
 #[derive(Clone, Copy, PartialEq, Eq, Debug)]
 pub struct Facts {
     pub class: Class,

@@ -35,7 +35,8 @@ pub fn node_bytes(bytes: &[u8], i: u8) -> [u8; 8]
 }
 
 impl Header {
-    // What the header says, or why the bytes have no header of a table.
+    // What the header says, or why the bytes have no header of a table. The name says more than a `TryFrom`
+    // would: the bytes go on behind it.
     pub fn read(bytes: &[u8]) -> Result<Header, TableFault>
         ensures { told table_refusal result ≡ header_from bytes.now }
     {

@@ -13,7 +13,7 @@ use std::io::{BufRead, BufReader};
 use table::span::Span;
 use table::table::Table;
 
-// The bytes that a text of hexadecimal pairs spells.
+// The bytes that a text of hexadecimal pairs spells; a function, since `FromStr` is lent no allocator.
 fn parse(heap: Global, text: &str) -> anyhow::Result<Vec<u8>> {
     text.split_whitespace()
         .map(|pair| -> anyhow::Result<u8> { Ok(u8::from_str_radix(pair, 16)?) })
