@@ -1,9 +1,9 @@
 // Which nodes may follow which, one rule a function.
-ghost use Rattle.std.specs.Prelude.{◌≡◌, length};
+ghost use Rattle.std.specs.Prelude.{◌≡◌, ◌==◌, ◌&&◌, length};
 ghost use Rattle.fault.specs.First.{first, unless, told};
 ghost use Rattle.fault.specs.Refusals.{table_refusal};
 ghost use Rattle.nodes.specs.Lists.{node_list, known_of};
-ghost use Rattle.nodes.specs.Rules.{stands_for, earlier, classed, empty, ranged, sequence_crossed, crossed, over_limit, node_rules};
+ghost use Rattle.nodes.specs.Rules.{stands_for, sequence_for_property, earlier, classed, empty, ranged, sequence_crossed, crossed, over_limit, node_rules};
 ghost use Rattle.nodes.specs.Steps.{facts_step};
 
 use crate::list::Nodes;
@@ -46,6 +46,13 @@ impl Node {
 }
 
 impl Facts {
+    // Whether these are of a sequence that may match no cycle at all, and stands for a property.
+    fn is_empty_as(self, role: Class) -> bool
+        ensures { result ≡ (sequence_for_property self.class role && self.lo == 0) }
+    {
+        self.class == Class::Sequence && role == Class::Property && self.lo == 0
+    }
+
     fn is_over_limit(self) -> bool
         ensures { result ≡ over_limit self }
     {
@@ -74,10 +81,7 @@ impl Nodes {
     fn is_empty(&self, operands: Operands) -> bool
         ensures { result ≡ empty (known_of self.now) operands }
     {
-        let is_empty = |o: Operand| {
-            let known = self.known(o.node);
-            known.class == Class::Sequence && o.role == Class::Property && known.lo == 0
-        };
+        let is_empty = |o: Operand| self.known(o.node).is_empty_as(o.role);
         operands.a.is_some_and(is_empty) || operands.b.is_some_and(is_empty)
     }
 
