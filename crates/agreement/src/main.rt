@@ -15,6 +15,7 @@ mod walk;
 use anyhow::Context;
 use gates::list::Gates;
 use std::alloc::Global;
+use std::fmt;
 use std::io::{BufRead, BufReader};
 use steps::{Step, Stop, evaluate};
 use walk::Recording;
@@ -27,7 +28,8 @@ struct Case {
     steps: Vec<Step>,
 }
 
-// Parsers that allocate are functions: `FromStr` is lent no allocator.
+// Parsers that allocate are functions: `FromStr` is lent no allocator. `trials` has this one for bytes, and
+// two programs share no crate for one chain.
 fn parse_rows(heap: Global, text: &str) -> anyhow::Result<Vec<u64>> {
     text.split_whitespace()
         .map(|row| -> anyhow::Result<u64> { Ok(u64::from_str_radix(row, 16)?) })
@@ -62,41 +64,54 @@ fn over_rows(heap: Global, case: &Case) -> Result<bool, Stop> {
     evaluate(heap, &mut case.recording.domain(), &case.steps)
 }
 
-fn over_gates(heap: Global, case: &Case, list: &mut Gates) -> Result<bool, Stop> {
-    let formula = evaluate(heap, list, &case.steps)?;
-    Ok(case.recording.formula_truth(heap, list.gates(), formula)?)
+fn over_gates(heap: Global, case: &Case, list: &mut Gates) -> anyhow::Result<Result<bool, Stop>> {
+    match evaluate(heap, list, &case.steps) {
+        Ok(formula) => {
+            let truth = case.recording.formula_truth(heap, list.gates(), formula)?;
+            Ok(Ok(truth))
+        }
+        Err(stop) => Ok(Err(stop)),
+    }
 }
 
-// The truth, or why there is none; want of memory is no answer.
-fn told(heap: Global, answer: Result<bool, Stop>) -> anyhow::Result<String> {
+// A truth, or why there is none.
+#[derive(Drop)]
+struct Answer(Result<bool, Stop>);
+
+impl fmt::Display for Answer {
+    fn fmt<W: fmt::Write>(&self, f: &mut fmt::Formatter<W>) -> fmt::Result {
+        match &self.0 {
+            Ok(truth) => write!(f, "{truth}"),
+            Err(stop) => write!(f, "{stop}"),
+        }
+    }
+}
+
+// Want of memory is no answer, but an error of the program.
+fn told(answer: Result<bool, Stop>) -> anyhow::Result<Answer> {
     match answer {
-        Ok(truth) => Ok(format!(in heap; "{truth}")?),
         Err(stop @ Stop::NoMemory(_)) => Err(stop.into()),
-        Err(stop) => Ok(format!(in heap; "{stop}")?),
+        answer => Ok(Answer(answer)),
     }
 }
 
 fn show_case(rt: &HostRuntime, title: &str, case: &Case) -> anyhow::Result<()> {
     let heap = rt.alloc();
     let mut list = Gates::new(heap, case.length)?;
-    let rows = told(heap, over_rows(heap, case))?;
-    let gates = told(heap, over_gates(heap, case, &mut list))?;
+    let rows = told(over_rows(heap, case))?;
+    let gates = told(over_gates(heap, case, &mut list)?)?;
     let used = list.gates().len();
     let free = list.free();
     println!(rt; "{title}: rows {rows}, gates {gates}, {used} used, {free} free")?;
     Ok(())
 }
 
-fn run(rt: &HostRuntime) -> anyhow::Result<()> {
+fn main(rt: HostRuntime) -> anyhow::Result<()> {
     for line in BufReader::new(rt.alloc(), rt.stdin())?.lines(rt.alloc()) {
         let line = line?;
         let (title, rest) = line.split_once(';').context("a line has no semicolon")?;
         let case = parse_case(rt.alloc(), rest)?;
-        show_case(rt, title, &case)?;
+        show_case(&rt, title, &case)?;
     }
     Ok(())
-}
-
-fn main(rt: HostRuntime) -> anyhow::Result<()> {
-    run(&rt)
 }

@@ -56,6 +56,7 @@ impl Forge for Gates {
     }
 }
 
+// What stands behind the s of an atom: a part of a step, so no `FromStr` of it.
 fn parse_atom(text: &str) -> anyhow::Result<Step> {
     let (signal, cycle) = text.split_once('@').context("an atom has no cycle")?;
     Ok(Step::Atom {

@@ -3,7 +3,7 @@ use domain::rows::Rows;
 use gates::gate::{Gate, Literal, Variable};
 use std::alloc::{AllocError, Global};
 
-// Rows from a first cycle on.
+// Rows from a first cycle on: what `Rows` is lent.
 #[derive(Drop)]
 pub(crate) struct Recording {
     pub(crate) first: u64,
@@ -42,7 +42,8 @@ impl Recording {
         formula: Literal,
     ) -> Result<bool, AllocError> {
         let mut truths = Vec::new(heap);
-        // Each gate reads the truths of those before it, and so no chain of them collects.
+        // Each gate reads the truths of those before it, and so no chain of them collects; the gates are lent,
+        // so the truths stand in a list of their own.
         for gate in gates {
             let left = self.literal_truth(&truths, gate.left);
             let right = self.literal_truth(&truths, gate.right);

@@ -56,7 +56,8 @@ pub trait Lattice {
         ensures value { result ≡ fixed truth }
         ensures denotes { Denotes (meaning self.now) result (λ _. truth) };
 
-    // The value of a signal in a cycle.
+    // The value of a signal in a cycle. The two are operands of this call alone; a struct of both would be
+    // made only to be taken apart.
     fn atom(&mut self, signal: u8, cycle: u64) -> Result<Self::Value, DomainFault>
         ensures { Atom (meaning self.old) (meaning self.new) signal cycle result };
 

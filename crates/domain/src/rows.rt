@@ -25,6 +25,7 @@ impl<'a> Rows<'a> {
     }
 }
 
+// Each operation promises that the domain is as it was: a fact of two states, which no type can hold.
 impl<'a> Lattice for Rows<'a> {
     type Value = bool;
 
@@ -50,10 +51,9 @@ impl<'a> Lattice for Rows<'a> {
 
     fn cycle_count(&self) -> u64 {
         let rows = self.rows.len() as u64;
-        if rows <= END && self.first <= END - rows {
-            rows
-        } else {
-            0
+        match self.first.checked_add(rows) {
+            Some(end) if end <= END => rows,
+            _ => 0,
         }
     }
 
@@ -69,11 +69,12 @@ impl<'a> Lattice for Rows<'a> {
         ensures answer { Atom (meaning_of self.old) (meaning_of self.new) signal cycle result }
         ensures same { self.new ≡ self.old }
     {
-        if signal > 63 || cycle < self.first || cycle - self.first >= self.cycle_count() {
-            return Err(DomainFault::Atom);
+        match cycle.checked_sub(self.first) {
+            Some(place) if signal <= 63 && place < self.cycle_count() => {
+                Ok((self.rows[place as usize] >> signal) % 2 == 1)
+            }
+            _ => Err(DomainFault::Atom),
         }
-        let row = self.rows[(cycle - self.first) as usize];
-        Ok((row >> signal) % 2 == 1)
     }
 
     fn and(&mut self, a: bool, b: bool) -> Result<bool, DomainFault>

@@ -66,6 +66,6 @@ refusal_of (Of.Unroll f) = unroll_refusal f
 refusal_of (Of.Domain f) = domain_refusal f
 refusal_of (Of.Report f) = report_refusal f
 
--- the line that is written for a refusal
+-- the words that are written for a refusal
 abbrev pub refusal_text : Refusal → List ℕ
 refusal_text r = codes "refused " ++ decimal r.number ++ codes " " ++ decimal r.place

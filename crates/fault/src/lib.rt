@@ -126,7 +126,7 @@ pub struct Refusal {
     pub place: u64,
 }
 
-// As it is written everywhere: `refused`, the number and the place.
+// The words `refused N P`, where a program tells the number.
 impl fmt::Display for Refusal {
     ghost output = { λ r. Some (refusal_text r) };
 
@@ -240,7 +240,8 @@ impl Fault {
     }
 }
 
-// By hand, since these promise that the case is kept: the derive's `From` promises nothing.
+// By hand, since these promise that the case is kept: the derive's `From` promises nothing, and a macro
+// writes no ghost member.
 impl From<TableFault> for Fault {
     ghost from_gives = { λ fault r. r ≡ OfTable fault };
 

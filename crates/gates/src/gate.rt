@@ -11,7 +11,7 @@ pub enum Variable {
     False,
     // A signal in a cycle.
     Atom { signal: u8, cycle: u64 },
-    // A gate, by its place in the list.
+    // A gate, by its place in the list: gates share operands, and solvers take a list.
     Gate { place: u32 },
 }
 

@@ -4,7 +4,7 @@ ghost use Rattle.gates.specs.Graph.{ordered};
 
 use crate::gate::Gate;
 
-// Its length is the capacity of the `Vec`, reserved when it is made, so that no operation allocates.
+// The number of places is the capacity of the `Vec`, reserved when it is made, so that no operation allocates.
 // Its methods stand in a file of their own: a struct with ghost fields imports every `ghost use` of its file.
 #[derive(Drop)]
 pub struct Gates {

@@ -1,4 +1,4 @@
-// How nodes are written for a reader: by hand, since the words of SystemVerilog follow from no derive.
+// How nodes are written for a reader: by hand, since a derive of messages makes errors, and nodes are none.
 use nodes::node::{BooleanNode, Class, Facts, Node, PropertyNode, SequenceNode};
 use std::fmt;
 
@@ -54,7 +54,7 @@ fn property<W: fmt::Write>(node: PropertyNode, f: &mut fmt::Formatter<W>) -> fmt
     }
 }
 
-// The class of a node, and its lengths or its horizon.
+// The class of a node, and its lengths or its horizon; by hand, as above.
 #[derive(Clone, Copy)]
 pub struct Extent(pub Facts);
 

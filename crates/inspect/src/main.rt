@@ -110,9 +110,8 @@ fn show_place(rt: &HostRuntime, bytes: &[u8], fault: TableFault) -> io::Result<(
             None => println!(rt; "  there is no byte 0"),
         },
         TableFault::Header => {
-            let shown = bytes.len().min(16);
             print!(rt; "  bytes of the header:")?;
-            show_bytes(rt, &bytes[0..shown])
+            show_bytes(rt, bytes.get(..16).unwrap_or(bytes))
         }
         TableFault::Form { node }
         | TableFault::Operand { node }
@@ -141,7 +140,8 @@ fn inspect(rt: &HostRuntime, name: &str) -> io::Result<()> {
     }
 }
 
-// Whether a file could be read and shown; if not, standard error says why.
+// Whether a file could be read and shown; if not, standard error says why. A truth, since an error that
+// `main` returns would be told a second time.
 fn inspect_file(rt: &HostRuntime, name: &str) -> io::Result<bool> {
     match inspect(rt, name) {
         Ok(()) => Ok(true),

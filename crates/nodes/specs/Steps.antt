@@ -1,4 +1,5 @@
--- What inner functions promise. No public promise rests on these: they are tied to the trees there.
+-- What inner functions promise, and what their proofs speak of. No public promise rests on these: they
+-- are tied to the trees there.
 use Rattle.std.specs.Prelude.{ℕ, ◌+◌, ◌-◌, ◌*◌, ◌<◌, ◌≤◌, min, max, List, length, slice_index_or}
 use Rattle.nodes.specs.declared.node.Node.{Node}
 use Rattle.nodes.specs.declared.node.BooleanNode.{BooleanNode}

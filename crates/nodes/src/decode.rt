@@ -18,7 +18,8 @@ pub(crate) struct Fields {
 }
 
 // What fields spell. A field that a kind does not use is zero. The number of a kind stands here alone,
-// beside the node that it spells: an enum of kinds would list the nodes' names once more.
+// beside the node that it spells: an enum of kinds would list the nodes' names once more. `node` is no
+// field, since it does not come from the bytes.
 impl Fields {
     fn boolean(self, node: u8) -> Result<Node, TableFault>
         ensures { told table_refusal result ≡ boolean_from node self }
@@ -85,7 +86,8 @@ impl Fields {
     }
 }
 
-// The node that eight bytes spell, or why they spell none; `node` is the number that it would have.
+// The node that eight bytes spell, or why they spell none; `node` is the number that it would have, which a
+// `TryFrom` is not given.
 pub fn decode(bytes: [u8; 8], node: u8) -> Result<Node, TableFault>
     ensures { told table_refusal result ≡ node_from node bytes }
 {

@@ -1,7 +1,7 @@
 // What is known of a node, from what is known of the earlier ones.
 ghost use Rattle.std.specs.Prelude.{◌≡◌};
 ghost use Rattle.nodes.specs.Lists.{known_of};
-ghost use Rattle.nodes.specs.Steps.{boolean_step, sequence_step, property_step, facts_step};
+ghost use Rattle.nodes.specs.Steps.{back, boolean_step, sequence_step, property_step, facts_step};
 ghost use Rattle.nodes.specs.Trees.{boolean_facts, sequence_facts, property_facts};
 
 use crate::list::Nodes;
@@ -46,6 +46,13 @@ impl Facts {
 }
 
 impl Nodes {
+    // The larger lookback of two nodes.
+    fn back(&self, a: u8, b: u8) -> u16
+        ensures { result ≡ back (known_of self.now) a b }
+    {
+        self.known(a).lookback.max(self.known(b).lookback)
+    }
+
     // How far back a Boolean looks.
     fn boolean_lookback(&self, node: BooleanNode) -> u16
         ensures { result ≡ boolean_step (known_of self.now) node }
@@ -53,9 +60,7 @@ impl Nodes {
         match node {
             BooleanNode::Constant { .. } | BooleanNode::Signal { .. } => 0,
             BooleanNode::Not { a } => self.known(a).lookback,
-            BooleanNode::And { a, b } | BooleanNode::Or { a, b } => {
-                self.known(a).lookback.max(self.known(b).lookback)
-            }
+            BooleanNode::And { a, b } | BooleanNode::Or { a, b } => { self.back(a, b) }
             BooleanNode::Past { a, m } => self.known(a).lookback + m as u16,
         }
     }
@@ -69,7 +74,7 @@ impl Nodes {
                 Facts::sequence(
                     x.lo + y.lo + (m as u16).saturating_sub(1),
                     x.hi + y.hi + (n as u16).saturating_sub(1),
-                    x.lookback.max(y.lookback),
+                    self.back(a, b),
                 )
             }
             SequenceNode::Fusion { a, b } => {
@@ -77,7 +82,7 @@ impl Nodes {
                 Facts::sequence(
                     x.lo.max(1) + y.lo.max(1) - 1,
                     (x.hi + y.hi).saturating_sub(1),
-                    x.lookback.max(y.lookback),
+                    self.back(a, b),
                 )
             }
             SequenceNode::Repeat { a, m, n } => {
@@ -86,23 +91,23 @@ impl Nodes {
             }
             SequenceNode::Or { a, b } => {
                 let (x, y) = (self.known(a), self.known(b));
-                Facts::sequence(x.lo.min(y.lo), x.hi.max(y.hi), x.lookback.max(y.lookback))
+                Facts::sequence(x.lo.min(y.lo), x.hi.max(y.hi), self.back(a, b))
             }
             SequenceNode::Intersect { a, b } => {
                 let (x, y) = (self.known(a), self.known(b));
-                Facts::sequence(x.lo.max(y.lo), x.hi.min(y.hi), x.lookback.max(y.lookback))
+                Facts::sequence(x.lo.max(y.lo), x.hi.min(y.hi), self.back(a, b))
             }
             SequenceNode::And { a, b } => {
                 let (x, y) = (self.known(a), self.known(b));
-                Facts::sequence(x.lo.max(y.lo), x.hi.max(y.hi), x.lookback.max(y.lookback))
+                Facts::sequence(x.lo.max(y.lo), x.hi.max(y.hi), self.back(a, b))
             }
             SequenceNode::Throughout { a, b } => {
                 let (x, y) = (self.known(a), self.known(b));
-                Facts::sequence(y.lo, y.hi, x.lookback.max(y.lookback))
+                Facts::sequence(y.lo, y.hi, self.back(a, b))
             }
             SequenceNode::Within { a, b } => {
                 let (x, y) = (self.known(a), self.known(b));
-                Facts::sequence(x.lo.max(y.lo), y.hi, x.lookback.max(y.lookback))
+                Facts::sequence(x.lo.max(y.lo), y.hi, self.back(a, b))
             }
             SequenceNode::FirstMatch { a } => {
                 let x = self.known(a);
@@ -121,18 +126,15 @@ impl Nodes {
             }
             PropertyNode::Or { a, b } | PropertyNode::And { a, b } => {
                 let (x, y) = (self.known(a), self.known(b));
-                Facts::property(x.horizon.max(y.horizon), x.lookback.max(y.lookback))
+                Facts::property(x.horizon.max(y.horizon), self.back(a, b))
             }
             PropertyNode::Implies { a, b } => {
                 let (x, y) = (self.known(a), self.known(b));
-                Facts::property(
-                    x.hi.saturating_sub(1) + y.horizon,
-                    x.lookback.max(y.lookback),
-                )
+                Facts::property(x.hi.saturating_sub(1) + y.horizon, self.back(a, b))
             }
             PropertyNode::ImpliesNext { a, b } => {
                 let (x, y) = (self.known(a), self.known(b));
-                Facts::property(x.hi + y.horizon, x.lookback.max(y.lookback))
+                Facts::property(x.hi + y.horizon, self.back(a, b))
             }
             PropertyNode::Nexttime { a, m } => {
                 let x = self.known(a);

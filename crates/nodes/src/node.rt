@@ -67,7 +67,8 @@ pub struct Facts {
     pub lookback: u16,
 }
 
-// What is known of a node that is not there: nothing.
+// What is answered for a node that is not there, as in the definitions (`no_facts`): with an `Option` each
+// rule would ask once more what the first rule has asked.
 pub(crate) const UNKNOWN: Facts = Facts {
     class: Class::Boolean,
     lo: 0,

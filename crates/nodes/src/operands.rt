@@ -11,6 +11,7 @@ impl Operands {
         Operands { a: None, b: None }
     }
 
+    // A class and a number each, as the definition takes them: written out, an `Operand` is longer.
     fn one(role: Class, a: u8) -> Operands
         ensures { result ≡ one_operand role a }
     {

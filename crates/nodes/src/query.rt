@@ -50,7 +50,7 @@ impl Nodes {
         self.entries().get(i as usize).map(|entry| entry.facts)
     }
 
-    // What is known of node `a`; of a node that is not there, nothing.
+    // What is known of node `a`; `UNKNOWN` for a node that is not there.
     #[tactic(auto, using(crate::proofs::Held::known_short))]
     pub(crate) fn known(&self, a: u8) -> Facts
         ensures value { result ≡ known_of self.now a }
@@ -59,7 +59,8 @@ impl Nodes {
         self.facts(a).unwrap_or(UNKNOWN)
     }
 
-    // What is known of the last node; of an empty list, nothing.
+    // What is known of the last node; of an empty list, what is answered for a node that is not there: a
+    // Boolean, with 0 for each number.
     pub fn last_facts(&self) -> Facts
         ensures value { result ≡ known_of self.now (length (node_list self.now) - 1) }
         ensures ahead { result.horizon ≤ 31 }

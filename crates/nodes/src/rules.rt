@@ -65,24 +65,24 @@ impl Nodes {
     fn are_earlier(&self, operands: Operands) -> bool
         ensures { result ≡ earlier (length (node_list self.now)) operands }
     {
-        let is_earlier = |o: Operand| o.node < self.count;
-        operands.a.is_none_or(is_earlier) && operands.b.is_none_or(is_earlier)
+        let earlier = |o: Operand| o.node < self.count;
+        operands.a.is_none_or(earlier) && operands.b.is_none_or(earlier)
     }
 
     // Whether every operand is of a class that can stand where it does.
     fn are_classed(&self, operands: Operands) -> bool
         ensures { result ≡ classed (known_of self.now) operands }
     {
-        let is_classed = |o: Operand| self.known(o.node).class.stands_for(o.role);
-        operands.a.is_none_or(is_classed) && operands.b.is_none_or(is_classed)
+        let classed = |o: Operand| self.known(o.node).class.stands_for(o.role);
+        operands.a.is_none_or(classed) && operands.b.is_none_or(classed)
     }
 
     // Whether some operand is a sequence that may match no cycle at all and stands for a property.
-    fn is_empty(&self, operands: Operands) -> bool
+    fn takes_empty(&self, operands: Operands) -> bool
         ensures { result ≡ empty (known_of self.now) operands }
     {
-        let is_empty = |o: Operand| self.known(o.node).is_empty_as(o.role);
-        operands.a.is_some_and(is_empty) || operands.b.is_some_and(is_empty)
+        let empty = |o: Operand| self.known(o.node).is_empty_as(o.role);
+        operands.a.is_some_and(empty) || operands.b.is_some_and(empty)
     }
 
     fn is_sequence_crossed(&self, node: SequenceNode) -> bool
@@ -128,7 +128,7 @@ impl Nodes {
         if self.is_crossed(node) {
             return Err(TableFault::Lengths { node: i });
         }
-        if self.is_empty(operands) {
+        if self.takes_empty(operands) {
             return Err(TableFault::Empty { node: i });
         }
         let facts = self.next_facts(node);

@@ -39,7 +39,8 @@ impl Reach {
 }
 
 impl Verdict {
-    // The verdict of a start, from whether the property holds there and whether it is live.
+    // The verdict of a start, from whether the property holds there and whether it is live: a `From` of two
+    // truths would not say which is which.
     pub fn of(holds: bool, live: bool) -> Verdict
         ensures { result ≡ judge holds live }
     {

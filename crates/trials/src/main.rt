@@ -5,7 +5,7 @@
 // A line is a title, a semicolon and the table's bytes in hexadecimal; behind a further semicolon
 // there may be a start, whose span is then asked for. The lines and the answers that they should get
 // are made by tools/table_cases.py.
-use anyhow::anyhow;
+use anyhow::Context;
 use fault::Fault;
 use std::alloc::Global;
 use std::fmt;
@@ -69,23 +69,17 @@ fn try_table(rt: &HostRuntime, title: &str, text: &str, start: Option<u64>) -> a
 }
 
 fn try_line(rt: &HostRuntime, line: &str) -> anyhow::Result<()> {
-    let Some((title, rest)) = line.split_once(';') else {
-        return Err(anyhow!("a line has no semicolon"));
-    };
+    let (title, rest) = line.split_once(';').context("a line has no semicolon")?;
     match rest.split_once(';') {
         Some((text, start)) => try_table(rt, title, text, Some(start.trim().parse::<u64>()?)),
         None => try_table(rt, title, rest, None),
     }
 }
 
-fn run(rt: &HostRuntime) -> anyhow::Result<()> {
+fn main(rt: HostRuntime) -> anyhow::Result<()> {
     for line in BufReader::new(rt.alloc(), rt.stdin())?.lines(rt.alloc()) {
         let line = line?;
-        try_line(rt, line.as_str())?;
+        try_line(&rt, line.as_str())?;
     }
     Ok(())
-}
-
-fn main(rt: HostRuntime) -> anyhow::Result<()> {
-    run(&rt)
 }
