@@ -13,9 +13,6 @@ pub struct Rows<'a> {
     rows: &'a [u64],
 }
 
-// Rows that would go on from here are not held at all: 2^41. Each domain has a largest cycle of its own.
-const END: u64 = 1 << 41;
-
 impl<'a> Rows<'a> {
     pub fn new(first: u64, rows: &'a [u64]) -> Rows<'a>
         ensures value { meaning_of result ≡ rows_meaning first rows.now }
@@ -29,7 +26,8 @@ impl<'a> Rows<'a> {
 impl<'a> Lattice for Rows<'a> {
     type Value = bool;
 
-    const LAST_CYCLE: u64 = END - 1;
+    // Rows that would go on behind this cycle are not held at all: 2^41 - 1.
+    const LAST_CYCLE: u64 = (1 << 41) - 1;
 
     ghost Reading = { Unit {0} };
 
@@ -52,7 +50,7 @@ impl<'a> Lattice for Rows<'a> {
     fn cycle_count(&self) -> u64 {
         let rows = self.rows.len() as u64;
         match self.first.checked_add(rows) {
-            Some(end) if end <= END => rows,
+            Some(end) if end <= Self::LAST_CYCLE + 1 => rows,
             _ => 0,
         }
     }

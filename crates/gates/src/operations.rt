@@ -15,9 +15,6 @@ use std::alloc::{AllocError, Global};
 // No more gates than these are ever used: 2^32.
 const MOST_PLACES: usize = 1 << 32;
 
-// Cycles from here on are not held: 2^41. Each domain has a largest cycle of its own.
-const END: u64 = 1 << 41;
-
 impl Gates {
     // An empty list for so many gates.
     pub fn new(heap: Global, length: usize) -> Result<Gates, AllocError>
@@ -70,7 +67,8 @@ impl Gates {
 impl Lattice for Gates {
     type Value = Literal;
 
-    const LAST_CYCLE: u64 = END - 1;
+    // No cycle behind this one is held: 2^41 - 1.
+    const LAST_CYCLE: u64 = (1 << 41) - 1;
 
     ghost Reading = { Trace };
 
@@ -89,13 +87,13 @@ impl Lattice for Gates {
     }
 
     fn cycle_count(&self) -> u64 {
-        END
+        Self::LAST_CYCLE + 1
     }
 
     fn issued(&self, a: Literal) -> bool {
         match a.variable {
             Variable::False => true,
-            Variable::Atom { signal, cycle } => signal <= 63 && cycle < END,
+            Variable::Atom { signal, cycle } => signal <= 63 && cycle <= Self::LAST_CYCLE,
             Variable::Gate { place } => (place as usize) < self.gates.len(),
         }
     }
