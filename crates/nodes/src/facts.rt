@@ -60,7 +60,7 @@ impl Nodes {
         match node {
             BooleanNode::Constant { .. } | BooleanNode::Signal { .. } => 0,
             BooleanNode::Not { a } => self.known(a).lookback,
-            BooleanNode::And { a, b } | BooleanNode::Or { a, b } => { self.back(a, b) }
+            BooleanNode::And { a, b } | BooleanNode::Or { a, b } => self.back(a, b),
             BooleanNode::Past { a, m } => self.known(a).lookback + m as u16,
         }
     }
