@@ -16,7 +16,7 @@ use Rattle.nodes.specs.Trees.{tree_of, build, facts_of}
 abbrev pub node_list : Nodes → List Node
 node_list t = nodes_in t.count t.entries
 
--- what is known of node a; of a node that is not there, nothing
+-- what is known of node a; `no_facts` of a node that is not there
 abbrev pub known_of : Nodes → ℕ → Facts
 known_of t a = facts_of (tree_of (node_list t) a)
 
