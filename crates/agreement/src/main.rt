@@ -17,7 +17,7 @@ use gates::list::Gates;
 use std::alloc::Global;
 use std::fmt;
 use std::io::{BufRead, BufReader};
-use steps::{Step, Stop, evaluate};
+use steps::{Step, StepError, Stop, evaluate};
 use walk::Recording;
 
 // One case of the input.
@@ -36,7 +36,7 @@ fn parse_rows(heap: Global, text: &str) -> anyhow::Result<Vec<u64>> {
         .try_collect(heap)
 }
 
-fn parse_steps(heap: Global, text: &str) -> anyhow::Result<Vec<Step>> {
+fn parse_steps(heap: Global, text: &str) -> Result<Vec<Step>, StepError> {
     text.split_whitespace()
         .map(|step| step.parse::<Step>())
         .try_collect(heap)
@@ -75,7 +75,7 @@ fn over_gates(heap: Global, case: &Case, list: &mut Gates) -> anyhow::Result<Res
 }
 
 // A truth, or why there is none.
-#[derive(Drop)]
+#[derive(Clone, Copy)]
 struct Answer(Result<bool, Stop>);
 
 impl fmt::Display for Answer {

@@ -1,11 +1,11 @@
 // Expressions, as steps that any domain can follow.
-use anyhow::{Context, anyhow};
 use domain::Domain;
 use domain::rows::Rows;
 use fault::{DomainFault, Fault, Refusal};
 use gates::gate::{Literal, Variable};
 use gates::list::Gates;
 use std::alloc::{AllocError, Global};
+use std::num::ParseIntError;
 use std::str::FromStr;
 use thiserror::Error;
 
@@ -21,7 +21,7 @@ pub enum Step {
 }
 
 // Why an expression has no value.
-#[derive(Debug, Drop, Error)]
+#[derive(Clone, Copy, Debug, Error)]
 pub enum Stop {
     #[error(transparent)]
     Refused(Refusal),
@@ -56,9 +56,23 @@ impl Forge for Gates {
     }
 }
 
+// Why a text is no step. An enum, and not an `anyhow::Error`, which is large: a result of that size would be
+// passed on for each step.
+#[derive(Debug, Drop, Error)]
+pub enum StepError {
+    #[error("a step is none")]
+    Unknown,
+    #[error("an atom has no cycle")]
+    NoCycle,
+    #[error(transparent)]
+    Number(#[from] ParseIntError),
+    #[error(transparent)]
+    Memory(#[from(alloc)] AllocError),
+}
+
 // What stands behind the s of an atom: a part of a step, so no `FromStr` of it.
-fn parse_atom(text: &str) -> anyhow::Result<Step> {
-    let (signal, cycle) = text.split_once('@').context("an atom has no cycle")?;
+fn parse_atom(text: &str) -> Result<Step, StepError> {
+    let (signal, cycle) = text.split_once('@').ok_or(StepError::NoCycle)?;
     Ok(Step::Atom {
         signal: signal.parse::<u8>()?,
         cycle: cycle.parse::<u64>()?,
@@ -66,9 +80,9 @@ fn parse_atom(text: &str) -> anyhow::Result<Step> {
 }
 
 impl FromStr for Step {
-    type Err = anyhow::Error;
+    type Err = StepError;
 
-    fn from_str(text: &str) -> anyhow::Result<Step> {
+    fn from_str(text: &str) -> Result<Step, StepError> {
         match text {
             "0" => Ok(Step::Constant(false)),
             "1" => Ok(Step::Constant(true)),
@@ -80,7 +94,7 @@ impl FromStr for Step {
                 (None, Some(place)) => Ok(Step::Gate {
                     place: place.parse::<u32>()?,
                 }),
-                (None, None) => Err(anyhow!("a step is none")),
+                (None, None) => Err(StepError::Unknown),
             },
         }
     }
