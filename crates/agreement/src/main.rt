@@ -17,7 +17,7 @@ use gates::list::Gates;
 use std::alloc::Global;
 use std::fmt;
 use std::io::{BufRead, BufReader};
-use steps::{Step, StepError, Stop, evaluate};
+use steps::{ParseError, Step, Stop, evaluate};
 use walk::Recording;
 
 // One case of the input.
@@ -30,13 +30,13 @@ struct Case {
 
 // Parsers that allocate are functions: `FromStr` is lent no allocator. `trials` has this one for bytes, and
 // two programs share no crate for one chain.
-fn parse_rows(heap: Global, text: &str) -> anyhow::Result<Vec<u64>> {
+fn parse_rows(heap: Global, text: &str) -> Result<Vec<u64>, ParseError> {
     text.split_whitespace()
-        .map(|row| -> anyhow::Result<u64> { Ok(u64::from_str_radix(row, 16)?) })
+        .map(|row| -> Result<u64, ParseError> { Ok(u64::from_str_radix(row, 16)?) })
         .try_collect(heap)
 }
 
-fn parse_steps(heap: Global, text: &str) -> Result<Vec<Step>, StepError> {
+fn parse_steps(heap: Global, text: &str) -> Result<Vec<Step>, ParseError> {
     text.split_whitespace()
         .map(|step| step.parse::<Step>())
         .try_collect(heap)

@@ -56,10 +56,10 @@ impl Forge for Gates {
     }
 }
 
-// Why a text is no step. An enum, and not an `anyhow::Error`, which is large: a result of that size would be
-// passed on for each step.
+// Why a text is no row or no step. An enum, and not an `anyhow::Error`, which is large: a result of that size
+// would be passed on for each of them.
 #[derive(Debug, Drop, Error)]
-pub enum StepError {
+pub enum ParseError {
     #[error("a step is none")]
     Unknown,
     #[error("an atom has no cycle")]
@@ -71,8 +71,8 @@ pub enum StepError {
 }
 
 // What stands behind the s of an atom: a part of a step, so no `FromStr` of it.
-fn parse_atom(text: &str) -> Result<Step, StepError> {
-    let (signal, cycle) = text.split_once('@').ok_or(StepError::NoCycle)?;
+fn parse_atom(text: &str) -> Result<Step, ParseError> {
+    let (signal, cycle) = text.split_once('@').ok_or(ParseError::NoCycle)?;
     Ok(Step::Atom {
         signal: signal.parse::<u8>()?,
         cycle: cycle.parse::<u64>()?,
@@ -80,9 +80,9 @@ fn parse_atom(text: &str) -> Result<Step, StepError> {
 }
 
 impl FromStr for Step {
-    type Err = StepError;
+    type Err = ParseError;
 
-    fn from_str(text: &str) -> Result<Step, StepError> {
+    fn from_str(text: &str) -> Result<Step, ParseError> {
         match text {
             "0" => Ok(Step::Constant(false)),
             "1" => Ok(Step::Constant(true)),
@@ -94,7 +94,7 @@ impl FromStr for Step {
                 (None, Some(place)) => Ok(Step::Gate {
                     place: place.parse::<u32>()?,
                 }),
-                (None, None) => Err(StepError::Unknown),
+                (None, None) => Err(ParseError::Unknown),
             },
         }
     }

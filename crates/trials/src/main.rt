@@ -7,16 +7,28 @@
 // are made by tools/table_cases.py.
 use anyhow::Context;
 use fault::Fault;
-use std::alloc::Global;
+use std::alloc::{AllocError, Global};
 use std::fmt;
 use std::io::{BufRead, BufReader};
+use std::num::ParseIntError;
 use table::span::Span;
 use table::table::Table;
+use thiserror::Error;
+
+// Why a text spells no bytes. An enum, and not an `anyhow::Error`, which is large: a result of that size would
+// be passed on for each byte.
+#[derive(Debug, Drop, Error)]
+enum ParseError {
+    #[error(transparent)]
+    Number(#[from] ParseIntError),
+    #[error(transparent)]
+    Memory(#[from(alloc)] AllocError),
+}
 
 // The bytes that a text of hexadecimal pairs spells; a function, since `FromStr` is lent no allocator.
-fn parse(heap: Global, text: &str) -> anyhow::Result<Vec<u8>> {
+fn parse(heap: Global, text: &str) -> Result<Vec<u8>, ParseError> {
     text.split_whitespace()
-        .map(|pair| -> anyhow::Result<u8> { Ok(u8::from_str_radix(pair, 16)?) })
+        .map(|pair| -> Result<u8, ParseError> { Ok(u8::from_str_radix(pair, 16)?) })
         .try_collect(heap)
 }
 
